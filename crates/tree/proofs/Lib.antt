@@ -1,0 +1,4 @@
+pub mod Slots
+pub mod Stacks
+pub mod Paths
+pub mod XPath
