@@ -4,7 +4,11 @@ use mathlib.Core.List.{List, [], _∷_, _++_, reverse}
 use Prim.Native.Nat.{ℕ, _+_, _-_, _≤_, _<_}
 use native.Mathlib.Omega.{arith}
 use lib.ListN.{length, take, drop, set, getD}
-use Rattle.std.proofs.shelf.Lists.{reverse-append, length-reverse, length-drop, length-take-le, take-append-drop, take-take, take-more, take-more-set, drop-at}
+use Rattle.std.specs.declared.result.Result.{Result}
+use Rattle.std.specs.declared.result.Result.the-variants.{Ok, Err}
+use Rattle.std.proofs.shelf.Lists.{length-set, reverse-append, length-reverse, length-drop, length-take-le, take-append-drop, take-take, take-more, take-more-set, drop-at}
+use Rattle.tree.specs.declared.stack.Stack.{Stack}
+use Rattle.tree.specs.Stacks.{items, lent, Pushed, Grown}
 
 pub reverse-push : {T : Type 0} (xs : List T) (x : T) → reverse (xs ++ x ∷ []) ≡ x ∷ reverse xs
 reverse-push xs x = reverse-append xs (x ∷ [])
@@ -33,3 +37,13 @@ items-top xs n d l h = let e : n ≡ n - 1 + 1 = omega arith in ap (λ (k : ℕ)
 
 pub cons-drop : {T : Type 0} (xs : List T) (x : T) (ys : List T) → xs ≡ x ∷ ys → xs ≡ x ∷ drop 1 xs
 cons-drop xs x ys e = e ∙ ap (λ zs. x ∷ drop 1 zs) (sym e)
+
+-- where there is room, a push is not refused
+pub pushed : {T : Type 0} (s : Stack T) (x : T) (r : Result (Unit {0}) T) (t : Stack T) → Pushed s x r t → length (items s) < length (lent s) → Grown s x t
+pushed s x (Ok u) t h l = h
+pushed s x (Err y) t h l = absurd (omega (arith, h .room))
+
+-- a push writes at most one slot
+pub pushed-lent : {T : Type 0} (s : Stack T) (x : T) (r : Result (Unit {0}) T) (t : Stack T) → Pushed s x r t → length (lent t) ≡ length (lent s)
+pushed-lent s x (Ok u) t h = ap length (h .written) ∙ length-set (lent s) (length (items s)) x
+pushed-lent s x (Err y) t h = ap length (h .written)

@@ -1,4 +1,6 @@
 // A step is an axis and a test.
+ghost use mathlib.Core.Path.{_≡_};
+ghost use Rattle.tree.specs.Paths.{admits as admitted};
 
 #[derive(Clone, Copy, Debug, PartialEq, Drop)]
 pub enum Axis {
@@ -17,4 +19,16 @@ pub enum Test {
 pub struct Step {
     pub axis: Axis,
     pub test: Test,
+}
+
+impl Test {
+    // Whether a node with this label passes the test.
+    pub fn admits(self, label: u16) -> bool
+        ensures { λ r. ⌜ r ≡ admitted self label ⌝ }
+    {
+        match self {
+            Test::Any => true,
+            Test::Label(wanted) => label == wanted,
+        }
+    }
 }
