@@ -1,3 +1,4 @@
 pub mod Runs
+pub mod Found
 pub mod Finds
 pub mod Names

@@ -1,4 +1,4 @@
--- The longest run of bytes at the front of a text. Assumes nothing.
+-- The longest run of bytes at the front of a text.
 use mathlib.Core.Path.{_≡_, refl, sym, ap, _∙_}
 use mathlib.Core.Bool.{Bool, true, false, cond}
 use mathlib.Core.List.{List, [], _∷_, _++_}
@@ -7,7 +7,8 @@ use native.Mathlib.Omega.{arith}
 use lib.ListN.{length, getD, take, drop, length-append}
 use Rattle.std.proofs.shelf.Lists.{take-rest, take-at}
 use Rattle.std.specs.shelf.Lists.{All}
-use Rattle.names.specs.Words.{after, front}
+use Rattle.std.proofs.shelf.Tests.{cond-true, cond-false}
+use Rattle.names.specs.Words.{after, front, begins}
 
 -- a list with a first element is that element and the rest, as a slice pattern gives it
 pub first-and-rest : (s : List ℕ) → 1 ≤ length s → s ≡ getD s 0 0 ∷ take (length s - 1) (drop 1 s)
@@ -51,3 +52,41 @@ pub front-is : (p : ℕ → Bool) (s : List ℕ) → take (length s - length (af
 front-is p s =
     let long : length (front p s) ≡ length s - length (after p s) = omega (arith, ap length (split p s) ∙ length-append (front p s) (after p s)) in
     ap (take (length s - length (after p s))) (split p s) ∙ take-at (front p s) (after p s) _ long
+
+-- the rest after two bytes, as a slice pattern gives it
+pub two-and-rest : (s : List ℕ) → 2 ≤ length s → s ≡ getD s 0 0 ∷ getD s 1 0 ∷ take (length s - 2) (drop 2 s)
+two-and-rest [] h = absurd (omega arith)
+two-and-rest (a ∷ []) h = absurd (omega arith)
+two-and-rest (a ∷ b ∷ s) h = ap (λ (z : List ℕ). a ∷ b ∷ z) (sym (take-rest (a ∷ b ∷ s) 2))
+
+-- a text that begins with two known bytes
+pub with-two : (s : List ℕ) (a b : ℕ) → 2 ≤ length s → getD s 0 0 ≡ a → getD s 1 0 ≡ b → s ≡ a ∷ b ∷ take (length s - 2) (drop 2 s)
+with-two s a b h p q = two-and-rest s h ∙ ap (λ z. z ∷ getD s 1 0 ∷ take (length s - 2) (drop 2 s)) p ∙ ap (λ z. a ∷ z ∷ take (length s - 2) (drop 2 s)) q
+
+-- a run passes, and what follows it does not go on
+pub all-front : (p : ℕ → Bool) (s : List ℕ) → All (λ b. p b ≡ true) (front p s)
+all-front p [] = tt
+all-front p (b ∷ s) = go (p b) refl (all-front p s)
+  where
+    go : (c : Bool) → p b ≡ c → All (λ z. p z ≡ true) (front p s) → All (λ z. p z ≡ true) (cond c (b ∷ front p s) [])
+    go true e r = (e, r)
+    go false e r = tt
+
+pub begins-after : (p : ℕ → Bool) (s : List ℕ) → begins p (after p s) ≡ false
+begins-after p [] = refl
+begins-after p (b ∷ s) = go (p b) refl (begins-after p s)
+  where
+    go : (c : Bool) → p b ≡ c → begins p (after p s) ≡ false → begins p (cond c (after p s) (b ∷ s)) ≡ false
+    go true e r = r
+    go false e r = e
+
+-- a run is the longest one if what follows does not go on with it
+pub after-append : (p : ℕ → Bool) (w r : List ℕ) → All (λ b. p b ≡ true) w → begins p r ≡ false → after p (w ++ r) ≡ r
+after-append p [] [] a h = refl
+after-append p [] (b ∷ r) a h = cond-false (p b) (after p r) (b ∷ r) h
+after-append p (b ∷ w) r a h = cond-true (p b) (after p (w ++ r)) (b ∷ (w ++ r)) (a .0) ∙ after-append p w r (a .1) h
+
+pub front-append : (p : ℕ → Bool) (w r : List ℕ) → All (λ b. p b ≡ true) w → begins p r ≡ false → front p (w ++ r) ≡ w
+front-append p [] [] a h = refl
+front-append p [] (b ∷ r) a h = cond-false (p b) (b ∷ front p r) [] h
+front-append p (b ∷ w) r a h = cond-true (p b) (b ∷ front p (w ++ r)) [] (a .0) ∙ ap (λ (z : List ℕ). b ∷ z) (front-append p w r (a .1) h)

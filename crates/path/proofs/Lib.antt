@@ -1,0 +1,3 @@
+pub mod Wordings
+pub mod Readings
+pub mod Loops

@@ -1,0 +1,4 @@
+pub mod Faults
+pub mod Wordings
+pub mod Questions
+pub mod Reads

@@ -1,0 +1,3 @@
+// Question texts, read into steps.
+pub mod fault;
+pub mod question;
