@@ -1,14 +1,14 @@
 -- What reading a question text finds, and when a text is steps written one after another.
 use mathlib.Core.Path.{_≡_, refl, sym, ap, subst, _∙_}
 use mathlib.Core.Bool.{Bool, true, false, cond, _||_}
-use mathlib.Core.List.{List, [], _∷_, _++_}
+use mathlib.Core.List.{List, [], _∷_, _++_, map}
 use Prim.Native.Nat.{ℕ, zero, suc, _-_, _≤_, _<_}
 use native.Mathlib.Omega.{arith}
 use lib.Dec.{eqb, ltb}
 use lib.ListN.{length}
 use Rattle.std.specs.shelf.Lists.{All, joined}
-use Rattle.std.proofs.shelf.Lists.{append-nil, append-assoc, length-append}
-use Rattle.std.proofs.shelf.Tests.{ne-eqb, le-ltb, eqb-false, ltb-false, cond-true, cond-false, both-ways}
+use Rattle.std.proofs.shelf.Lists.{length-append, length-map}
+use Rattle.std.proofs.shelf.Tests.{ne-eqb, le-ltb, cond-false}
 use Rattle.std.specs.declared.option.Option.{Option}
 use Rattle.std.specs.declared.option.Option.the-variants.{Some, None}
 use Rattle.std.specs.declared.result.Result.{Result}
@@ -20,8 +20,8 @@ use Rattle.tree.specs.declared.step.Axis.{Axis}
 use Rattle.tree.specs.declared.step.Axis.the-variants.{Child, Descendant}
 use Rattle.path.specs.declared.fault.QuestionFault.{QuestionFault}
 use Rattle.path.specs.declared.fault.QuestionFault.the-variants.{Length, NoStep, TooMany}
-use Rattle.path.specs.Wordings.{Word-test, star, named, Wording, slashes, test-bytes, written, Good, Longest, Begins, Steps, none, more, first-step}
-use Rattle.path.specs.Questions.{Stop, at-end, no-step, enough, Reading, stopped, behind, ending, read-on, No-step, Stops, Reads, wrong-length, answered, answer, Written, Spelled}
+use Rattle.path.specs.Wordings.{Word-test, star, named, Wording, slashes, test-bytes, written, meant, Good, Longest, Begins, Steps, none, more, first-step}
+use Rattle.path.specs.Questions.{Stop, at-end, no-step, enough, Reading, stopped, behind, ending, read-on, No-step, Stops, Reads, wrong-length, answered, answer, steps-read, Written, Spelled}
 use Rattle.path.proofs.Wordings.{step-sound, step-complete, test-some}
 
 no-step-here : (s : List ℕ) → first-step s ≡ None → No-step s
@@ -118,3 +118,10 @@ module _ (c : ℕ) (s : List ℕ) (a : 1 ≤ length s) (b : length s ≤ 512) wh
 -- no text of a wrong length is steps
 pub spelled-not : (c : ℕ) (s : List ℕ) → (1 ≤ length s → length s ≤ 512 → ⊥) → Spelled c s (Err Length)
 spelled-not c s n ws w = n (written-some ws s (w .some) (w .good) (w .is)) (w .short)
+
+-- the steps of an accepted text are as many as are answered
+pub steps-answered : (ms : List (List ℕ)) (c : ℕ) (s : List ℕ) (n : ℕ) → Spelled c s (Ok n) → (n ≡ length (steps-read ms c s)) × (1 ≤ n) × (n ≤ c)
+steps-answered ms c s n (ws, w, k, e) =
+    let right = right-length s (written-some ws s (w .some) (w .good) (w .is)) (w .short) in
+    let are : steps-read ms c s ≡ map (meant ms) ws = cond-false (wrong-length s) [] (map (meant ms) (read-on c s .words)) right ∙ ap (map (meant ms)) e in
+    (k ∙ sym (length-map ws (meant ms)) ∙ ap length (sym are), omega (arith, w .some), omega (arith, w .few))

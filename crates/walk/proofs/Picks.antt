@@ -12,7 +12,10 @@ use Rattle.tree.specs.Paths.{numbers, chosen, select, selects}
 use Rattle.tree.proofs.Paths.{kept-yes, kept-no}
 use Rattle.tree.specs.declared.step.Step.{Step}
 use Rattle.walk.specs.Marks.{anyStep, ends}
-use Rattle.walk.specs.Walks.{origins}
+use Rattle.std.specs.declared.result.Result.the-variants.{Err}
+use Rattle.walk.specs.declared.fault.WalkFault.{WalkFault}
+use Rattle.walk.specs.declared.fault.WalkFault.the-variants.{NoQuestion, Short}
+use Rattle.walk.specs.Walks.{origins, Question, Walked}
 use Rattle.walk.proofs.Marking.{ends-next, selects-next}
 
 -- those of the first m nodes that end all steps
@@ -67,3 +70,18 @@ sofar-yes ns q before m n out s h =
           ∙ sym (append-assoc (map (originAt ns) (picked ns q m)) (originAt ns (m + 1) ∷ []) (drop (n + 1) before))
           ∙ ap (λ (z : List ℕ). z ++ drop (n + 1) before) (sym f);
     }
+
+kept-few : (f : ℕ → Bool) (n b : ℕ) → length (kept-by f (numbers n b)) ≤ n
+kept-few f zero b = omega arith
+kept-few f (suc n) b =
+    let r = kept-few f n (suc b) in
+    elim (f b) as (λ v. length (cond v (b ∷ kept-by f (numbers n (suc b))) (kept-by f (numbers n (suc b)))) ≤ suc n) [ true ↦ omega arith | false ↦ omega arith ]
+
+-- a question selects at most all nodes
+pub origins-few : (ns : List Node) (q : List Step) → 1 ≤ length q → length (origins ns q) ≤ count ns
+origins-few ns q l = omega (arith, length-map (selects ns q) (originAt ns), ap length (picked-all ns q l), kept-few (ends ns q (length q)) (count ns) 1)
+
+-- with a slot for each node, no question is refused
+pub never-refused : (ns : List Node) (q : List Step) (before : List ℕ) (e : WalkFault) (after : List ℕ) → Question q → count ns ≤ length before → Walked ns q before (Err e) after → ⊥
+never-refused ns q before NoQuestion after h l w = w .0 h
+never-refused ns q before (Short n) after h l w = omega (arith, w .1, w .2, origins-few ns q (h .some))
