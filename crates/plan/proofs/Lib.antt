@@ -1,0 +1,12 @@
+pub mod Known
+pub mod Enters
+pub mod Steps
+pub mod Outcomes
+pub mod Sofar
+pub mod Held
+pub mod Derives
+pub mod Accepts
+pub mod Trees
+pub mod Listed
+pub mod Tagged
+pub mod Planned

@@ -1,0 +1,6 @@
+pub mod Faults
+pub mod Plans
+pub mod Worked
+pub mod Reads
+pub mod Documents
+pub mod Trees

@@ -1,0 +1,9 @@
+pub mod Apart
+pub mod Scans
+pub mod Sound
+pub mod Attributes
+pub mod Complete
+pub mod Ends
+pub mod Firsts
+pub mod Named
+pub mod Places
