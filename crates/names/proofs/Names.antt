@@ -14,6 +14,10 @@ use Rattle.std.proofs.shelf.Lists.{take-rest}
 use native.Mathlib.Numerals.{add-one}
 use Rattle.std.proofs.shelf.Equals.{sameBytes-decides}
 use Rattle.std.proofs.shelf.Tests.{cond-true, cond-false, eq-eqb, ne-eqb, eqb-true, le-leb, leb-true, lt-ltb, le-ltb, and-parts, and-from, both-ways, cases-bool, cases-lt}
+use Rattle.std.specs.declared.result.Result.{Result}
+use Rattle.std.specs.declared.result.Result.the-variants.{Ok, Err}
+use Rattle.names.specs.declared.list.NoNameList.{NoNameList}
+use Rattle.names.specs.NameLists.{Sets}
 use Rattle.names.specs.Bytes.{name-start, name-byte}
 use Rattle.names.specs.Words.{Word, after}
 use Rattle.names.specs.Lists.{texts, before, number-of, Numbered, Short-name, Name-list, all-in, word, short-name, good-beside, apart, name-list}
@@ -152,3 +156,8 @@ module _ (rs : List (RefT (List ℕ))) (d : RefT (List ℕ)) (h : 1 ≤ length r
 pub apart-end : (rs : List (RefT (List ℕ))) → length rs < 1 → true ≡ apart (texts rs)
 apart-end [] h = refl
 apart-end (r ∷ rs) h = absurd (omega arith)
+
+-- names that are a list are not refused
+pub set-holds : (new old : List (List ℕ)) (r : Result (Unit {0}) NoNameList) (held : List (List ℕ)) → Name-list new → Sets new old r held → held ≡ new
+set-holds new old (Ok u) held l h = h .1
+set-holds new old (Err e) held l h = absurd (h .0 l)

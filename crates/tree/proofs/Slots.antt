@@ -9,9 +9,13 @@ use lib.ListN.{length, getD, drop}
 use Rattle.std.proofs.shelf.Lists.{getD-past, at-drop-more, at-drop-all}
 use Rattle.std.proofs.shelf.Tests.{leb-true, ltb-true, le-leb, lt-ltb, and-from, and-parts, both-ways, cond-true, cond-false}
 use mathlib.Core.Logic.{_⊎_, inl, inr}
-use Rattle.tree.specs.Nodes.{Node, node-limit, nowhere, nodeAt, shape, follows, chain, lawful}
-use Rattle.tree.specs.Tables.{Wrong}
-use Rattle.tree.specs.Laws.{Follows, First-wrong, follows-parts, follows-from}
+use Rattle.tree.specs.Nodes.{Node, Laws, node-limit, nowhere, nodeAt, shape, follows, chain, lawful}
+use Rattle.std.specs.declared.result.Result.{Result}
+use Rattle.std.specs.declared.result.Result.the-variants.{Ok, Err}
+use Rattle.tree.specs.declared.fault.TableFault.{TableFault}
+use Rattle.tree.specs.declared.fault.TableFault.the-variants.{NoTree}
+use Rattle.tree.specs.Tables.{Wrong, Sets}
+use Rattle.tree.specs.Laws.{Follows, First-wrong, follows-parts, follows-from, laws-follow}
 use Rattle.tree.specs.Slots.{node, numbered, wrong, wrong-slot}
 use Rattle.tree.specs.declared.slot.Slot.{Slot}
 
@@ -136,3 +140,15 @@ origin-of-slot ss (suc k) l = sym (ap (λ (n : Node). n .origin) (node-of-slot s
 pub wrong-is : (ss : List Slot) (w : ℕ) → (w ≡ 0 → ⊥) → 1 ≤ length ss → length ss ≤ node-limit → First-wrong (numbered 1 ss) w → Wrong ss w
 wrong-is ss zero n a b h = absurd (n refl)
 wrong-is ss (suc k) n a b h = (a, b, h)
+
+-- slots that are a tree are not refused
+pub never-wrong : (ss : List Slot) (k : ℕ) → Laws node-limit (numbered 1 ss) → Wrong ss k → ⊥
+never-wrong ss zero w h = let e = length-numbered 1 ss in h (omega (arith, w .some)) (omega (arith, w .most))
+never-wrong ss (suc k) w h =
+    let f = h .2 in
+    let e : suc k - 1 ≡ k = omega arith in
+    f .here (subst (λ (i : ℕ). Follows (nodeAt (numbered 1 ss) i) (nodeAt (numbered 1 ss) (suc k))) (sym e) (laws-follow node-limit (numbered 1 ss) w k (f .within)))
+
+pub set-shows : (new old : List Slot) (r : Result (Unit {0}) TableFault) (after : List Slot) → Laws node-limit (numbered 1 new) → Sets new old r after → after ≡ new
+set-shows new old (Ok u) after w h = h .1
+set-shows new old (Err (NoTree k)) after w h = absurd (never-wrong new k w (h .0))
