@@ -71,7 +71,7 @@ fn walked<T: Tree>(heap: Global, tree: &T, steps: &[Step]) -> Result<String, All
 pub fn answer<T: Tree>(
     heap: Global,
     tree: &T,
-    names: &NameList<'_>,
+    names: &NameList<'_, '_>,
     question: &[u8],
 ) -> Result<String, AllocError>
     ensures { λ r. ⌜ made r (λ line. string-bytes line ≡ answer-line (T·Tree .nodes (now (tree .entry))) (listed (now (names .entry))) (now (question .entry))) ⌝ }

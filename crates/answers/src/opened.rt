@@ -18,14 +18,14 @@ use tree::table::Table;
 use tree::table::methods::TableTree;
 
 #[derive(Drop)]
-pub struct Plan<'a> {
-    table: Table<'a>,
-    names: NameList<'a>,
+pub struct Plan<'n, 's, 't> {
+    table: Table<'n>,
+    names: NameList<'s, 't>,
 }
 
-impl<'a> Plan<'a> {
+impl<'n, 's, 't> Plan<'n, 's, 't> {
     // One node with label 1, and no names.
-    pub fn new() -> Plan<'a>
+    pub fn new() -> Plan<'n, 's, 't>
         ensures nodes { λ r. ⌜ nodes-of r ≡ record { label = 1; depth = 1; origin = 1 } ∷ [] ⌝ }
         ensures names { λ r. ⌜ names-of r ≡ [] ⌝ }
     {
@@ -38,9 +38,9 @@ impl<'a> Plan<'a> {
     // Reads a plan text into the slots and shows it from now on, or refuses it and shows what it showed.
     pub fn open(
         &mut self,
-        text: &'a [u8],
-        nodes: &'a mut [Slot],
-        names: &'a mut [&'a [u8]],
+        text: &'t [u8],
+        nodes: &'n mut [Slot],
+        names: &'s mut [&'t [u8]],
     ) -> Result<(), PlanFault>
         ensures { λ r. ⌜ Opens (room (length (now (nodes .entry))) (length (now (names .entry)))) (now (text .entry)) (now (self .entry)) r (now (self .exit)) ⌝ }
     {

@@ -11,8 +11,9 @@ static NONE: [&[u8]; 0] = [];
 #[derive(Clone, Copy, Debug, Drop)]
 pub struct NoNameList;
 
+// The names are parts of a text; the slots that refer to them are lent.
 #[derive(Clone, Copy, Drop)]
-pub struct NameList<'a> {
-    names: &'a [&'a [u8]],
+pub struct NameList<'s, 't> {
+    names: &'s [&'t [u8]],
     ghost good: { name-list (texts (names .now)) ≡ true },
 }

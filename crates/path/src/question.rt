@@ -30,7 +30,7 @@ fn split_axis<'a>(text: &'a [u8]) -> Option<(Axis, &'a [u8])>
     }
 }
 
-fn split_test<'a>(text: &'a [u8], names: &NameList<'_>) -> Option<(Test, &'a [u8])>
+fn split_test<'a>(text: &'a [u8], names: &NameList<'_, '_>) -> Option<(Test, &'a [u8])>
     ensures { λ r. ⌜ told r ≡ test-of (listed (now (names .entry))) (now (text .entry)) ⌝ }
 {
     match text {
@@ -44,7 +44,7 @@ fn split_test<'a>(text: &'a [u8], names: &NameList<'_>) -> Option<(Test, &'a [u8
 }
 
 // The step that a text begins with, and what follows it.
-fn split_step<'a>(text: &'a [u8], names: &NameList<'_>) -> Option<(Step, &'a [u8])>
+fn split_step<'a>(text: &'a [u8], names: &NameList<'_, '_>) -> Option<(Step, &'a [u8])>
     ensures { λ r. ⌜ told r ≡ step-of (listed (now (names .entry))) (now (text .entry)) ⌝ }
 {
     let (axis, rest) = split_axis(text)?;
@@ -53,7 +53,7 @@ fn split_step<'a>(text: &'a [u8], names: &NameList<'_>) -> Option<(Step, &'a [u8
 }
 
 // Reads the steps of a question text into the slots, as far as it is not refused, and answers their number.
-pub fn read_question(text: &[u8], names: &NameList<'_>, steps: &mut [Step]) -> Result<usize, QuestionFault>
+pub fn read_question(text: &[u8], names: &NameList<'_, '_>, steps: &mut [Step]) -> Result<usize, QuestionFault>
     ensures read { λ r. ⌜ Read (listed (now (names .entry))) (now (text .entry)) (now (steps .entry)) r (now (steps .exit)) ⌝ }
     ensures spelled { λ r. ⌜ Spelled (step-room (length (now (steps .entry)))) (now (text .entry)) r ⌝ }
 {

@@ -53,16 +53,16 @@ fn all_apart(names: &[&[u8]]) -> bool
     true
 }
 
-impl<'a> NameList<'a> {
+impl<'s, 't> NameList<'s, 't> {
     // A list of no names.
-    pub fn new() -> NameList<'a>
+    pub fn new() -> NameList<'s, 't>
         ensures { λ r. ⌜ listed r ≡ [] ⌝ }
     {
         NameList { names: &NONE }
     }
 
     // Holds these names from now on, or refuses them and holds what it held.
-    pub fn set(&mut self, names: &'a [&'a [u8]]) -> Result<(), NoNameList>
+    pub fn set(&mut self, names: &'s [&'t [u8]]) -> Result<(), NoNameList>
         ensures { λ r. ⌜ Sets (texts (now (names .entry))) (listed (now (self .entry))) r (listed (now (self .exit))) ⌝ }
     {
         if names.len() > MOST_NAMES {
