@@ -17,7 +17,8 @@ impl<'a, T: Copy> Stack<'a, T> {
     pub fn len(&self) -> usize
         ensures { λ r. ⌜ r ≡ length (items (now (self .entry))) ⌝ }
     {
-        self.len
+        let Stack { len, .. } = self;
+        *len
     }
 
     // Puts an item on top, or hands it back where the slots are full.

@@ -1,0 +1,14 @@
+use mathlib.Core.Path.{refl}
+use Rattle.std.specs.Written.{digits}
+use Rattle.tree.specs.Paths.{select, chosen}
+use Rattle.worked.proofs.table_is_worked.Needs as need
+
+pub returns : need.returns
+unfolding select chosen digits
+returns c = record {
+  labels = refl;
+  depths = refl;
+  origins = refl;
+  answered = (refl, (refl, (refl, (refl, (refl, (refl, (refl, tt)))))));
+  refused = (refl, (refl, (refl, (refl, tt))));
+}
