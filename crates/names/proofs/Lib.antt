@@ -1,3 +1,4 @@
+pub mod Apart
 pub mod Runs
 pub mod Found
 pub mod Finds

@@ -94,12 +94,12 @@ apart-from : (ms : List (List ℕ)) → All Short-name ms → ((i j : ℕ) → i
 apart-from [] a d = refl
 apart-from (m ∷ ms) a d =
     let none : before m ms ≡ length ms = ⊎-elim
-        (λ (l : before m ms < length ms). absurd (d 0 (suc (before m ms)) (omega arith) (omega arith) (sym (before-is m ms l))))
-        (λ (l : length ms ≤ before m ms). omega (arith, before-le m ms))
-        (cases-lt (before m ms) (length ms)) in
+    (λ (l : before m ms < length ms). absurd (d 0 (suc (before m ms)) (omega arith) (omega arith) (sym (before-is m ms l))))
+    (λ (l : length ms ≤ before m ms). omega (arith, before-le m ms))
+    (cases-lt (before m ms) (length ms)) in
     and-from (good-beside m ms) (apart ms)
-        (and-from (short-name m) (eqb (before m ms) (length ms)) (short-from m (a .0)) (eq-eqb (before m ms) (length ms) none))
-        (apart-from ms (a .1) (λ i j l h. d (suc i) (suc j) (omega arith) (omega arith)))
+    (and-from (short-name m) (eqb (before m ms) (length ms)) (short-from m (a .0)) (eq-eqb (before m ms) (length ms) none))
+    (apart-from ms (a .1) (λ i j l h. d (suc i) (suc j) (omega arith) (omega arith)))
 
 pub list-to : (ms : List (List ℕ)) → name-list ms ≡ true → Name-list ms
 unfolding name-list

@@ -10,6 +10,10 @@ use Rattle.std.specs.shelf.Lists.{All}
 use Rattle.std.proofs.shelf.Tests.{cond-true, cond-false}
 use Rattle.names.specs.Words.{after, front, begins}
 
+-- the rest of a text after its first byte, as a slice pattern gives it
+abbrev pub tl : List ℕ → List ℕ
+tl s = take (length s - 1) (drop 1 s)
+
 -- a list with a first element is that element and the rest, as a slice pattern gives it
 pub first-and-rest : (s : List ℕ) → 1 ≤ length s → s ≡ getD s 0 0 ∷ take (length s - 1) (drop 1 s)
 first-and-rest [] h = absurd (omega arith)

@@ -92,13 +92,13 @@ module _ (ms : List (List ℕ)) (most : ℕ) (text : List ℕ) (before : List St
 
       pub done : (r : Result ℕ QuestionFault) → r ≡ answered (length text) (record { words = so .words; rest = rest; stop = e }) e → Read ms text before r steps × Spelled (step-room (length before)) text r
       done r is = (
-          record {
-            value = is ∙ sym value-is ∙ ap (λ (c : ℕ). answer c text) room;
-            slots = slots-are ∙ ap (λ (c : ℕ). steps-read ms c text ++ drop (length (steps-read ms c text)) before) room;
-            reads = reads (step-room (length before)) text;
-          },
-          spelled (step-room (length before)) text a b r (is ∙ sym value-is ∙ ap (λ (c : ℕ). answer c text) room),
-        )
+        record {
+          value = is ∙ sym value-is ∙ ap (λ (c : ℕ). answer c text) room;
+          slots = slots-are ∙ ap (λ (c : ℕ). steps-read ms c text ++ drop (length (steps-read ms c text)) before) room;
+          reads = reads (step-room (length before)) text;
+        },
+        spelled (step-room (length before)) text a b r (is ∙ sym value-is ∙ ap (λ (c : ℕ). answer c text) room),
+      )
 
 -- the three ways in which reading stops
 pub stops-at-end : (c : ℕ) (s : List ℕ) → length s ≤ 0 → read-on c s ≡ stopped s at-end

@@ -9,25 +9,19 @@ use lib.Dec.{eqb}
 use lib.ListN.{length, getD, take, drop}
 use Rattle.std.specs.shelf.Lists.{All}
 use Rattle.std.proofs.shelf.Lists.{append-assoc, length-append}
-use Rattle.std.proofs.shelf.Tests.{ne-eqb, eqb-true, cond-true, cond-false, or-left}
-use Rattle.std.proofs.shelf.Ways.{tells}
+use Rattle.std.proofs.shelf.Tests.{ne-eqb, eqb-true, cond-true, cond-false}
 use Rattle.std.specs.declared.option.Option.{Option}
 use Rattle.std.specs.declared.option.Option.the-variants.{Some, None}
 use Rattle.names.specs.Bytes.{name-start, name-byte}
 use Rattle.names.specs.Words.{Word, front, after}
+use Rattle.names.proofs.Apart.{start-is-name, start-no-slash, start-no-star}
 use Rattle.names.proofs.Found.{none-some, some-same, cond-some, cond-either}
-use Rattle.names.proofs.Runs.{first-and-rest, split, all-front, begins-after, after-append, front-append}
+use Rattle.names.proofs.Runs.{tl, first-and-rest, split, all-front, begins-after, after-append, front-append}
 use Rattle.tree.specs.declared.step.Axis.{Axis}
 use Rattle.tree.specs.declared.step.Axis.the-variants.{Child, Descendant}
 use Rattle.tree.specs.declared.step.Test.the-variants.{Any}
 use Rattle.path.specs.Reads.{test-of}
 use Rattle.path.specs.Wordings.{Word-test, star, named, Wording, slashes, test-bytes, written, Good, Longest, Begins, axis-behind, axis-at, test-at, with-axis, test-behind, first-step}
-
-start-no-star : (b : ℕ) → name-start b ≡ true → eqb b 42 ≡ false
-start-no-star b h = grind (arith, tells)
-
-start-no-slash : (b : ℕ) → name-start b ≡ true → eqb b 47 ≡ false
-start-no-slash b h = grind (arith, tells)
 
 one-behind : (s : List ℕ) → (1 ≤ length s → getD s 0 0 ≡ 47 → ⊥) → axis-behind s ≡ (Child, s)
 one-behind [] n = refl
@@ -35,9 +29,6 @@ one-behind (b ∷ s) n = cond-false (eqb b 47) (Descendant, s) (Child, b ∷ s) 
 
 pub test-star : (ms : List (List ℕ)) (s : List ℕ) → 1 ≤ length s → getD s 0 0 ≡ 42 → Some (Any, take (length s - 1) (drop 1 s)) ≡ test-of ms s
 test-star ms s h a = sym (ap (test-of ms) (first-and-rest s h ∙ ap (λ b. b ∷ take (length s - 1) (drop 1 s)) a))
-
-abbrev pub tl : List ℕ → List ℕ
-tl s = take (length s - 1) (drop 1 s)
 
 module _ (s : List ℕ) (h : 1 ≤ length s) (a : getD s 0 0 ≡ 47) where
   axis-yes : axis-at s ≡ Some (axis-behind (tl s))
@@ -74,7 +65,7 @@ record Tested (s : List ℕ) (t : Word-test) (r : List ℕ) : Type 0 where
   longest : Longest t r
 
 name-word : (b : ℕ) (s : List ℕ) → name-start b ≡ true → Word (front name-byte (b ∷ s))
-name-word b s h = subst Word (sym (cond-true (name-byte b) (b ∷ front name-byte s) [] (or-left _ _ h))) (h, all-front name-byte s)
+name-word b s h = subst Word (sym (cond-true (name-byte b) (b ∷ front name-byte s) [] (start-is-name b h))) (h, all-front name-byte s)
 
 test-sound : (s : List ℕ) (t : Word-test) (r : List ℕ) → test-at s ≡ Some (t, r) → Tested s t r
 test-sound [] t r e = absurd (none-some (t, r) e)
@@ -111,7 +102,7 @@ test-complete : (t : Word-test) (r : List ℕ) → Good (record { axis = Child; 
 test-complete star r g l = refl
 test-complete (named []) r g l = absurd g
 test-complete (named (b ∷ n)) r g l =
-    let all : All (λ c. name-byte c ≡ true) (b ∷ n) = (or-left _ _ (g .0), g .1) in
+    let all : All (λ c. name-byte c ≡ true) (b ∷ n) = (start-is-name b (g .0), g .1) in
     cond-false (eqb b 42) (Some (star, n ++ r)) _ (start-no-star b (g .0))
     ∙ cond-true (name-start b) (Some (named (front name-byte (b ∷ (n ++ r))), after name-byte (b ∷ (n ++ r)))) None (g .0)
     ∙ ap₂ (λ (x : List ℕ) (y : List ℕ). Some (named x, y)) (front-append name-byte (b ∷ n) r all l) (after-append name-byte (b ∷ n) r all l)

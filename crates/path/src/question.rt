@@ -53,7 +53,11 @@ fn split_step<'a>(text: &'a [u8], names: &NameList<'_, '_>) -> Option<(Step, &'a
 }
 
 // Reads the steps of a question text into the slots, as far as it is not refused, and answers their number.
-pub fn read_question(text: &[u8], names: &NameList<'_, '_>, steps: &mut [Step]) -> Result<usize, QuestionFault>
+pub fn read_question(
+    text: &[u8],
+    names: &NameList<'_, '_>,
+    steps: &mut [Step],
+) -> Result<usize, QuestionFault>
     ensures read { λ r. ⌜ Read (listed (now (names .entry))) (now (text .entry)) (now (steps .entry)) r (now (steps .exit)) ⌝ }
     ensures spelled { λ r. ⌜ Spelled (step-room (length (now (steps .entry)))) (now (text .entry)) r ⌝ }
 {

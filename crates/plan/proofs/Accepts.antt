@@ -266,7 +266,7 @@ module _ (m : Room) (n : ℕ) (c : Counts) (last : Seen) where
   no-end : (s : List ℕ) → pair (finish n (seen-with [] bare)) (seen-with [] bare) ≡ pair (Ok c) last → Roots s
   no-end s e = absurd (omega (arith, finish-told (seen-with [] bare) e .1))
 
-  pub roots : (f : ℕ) (s : List ℕ) → length s ≤ f → run m n (seen-with [] bare) (pieces f n s) ≡ pair (Ok c) last → Roots s
+  roots : (f : ℕ) (s : List ℕ) → length s ≤ f → run m n (seen-with [] bare) (pieces f n s) ≡ pair (Ok c) last → Roots s
   roots zero s l e = no-end s e
   roots (suc f) s l e =
       ⊎-elim

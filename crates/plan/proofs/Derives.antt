@@ -36,7 +36,7 @@ abbrev pub seen-with : List (List ℕ) → Held → Seen
 seen-with os h = record { opened = os; nodes = h .nodes; names = h .names }
 
 -- nothing hinders an entry that fits
-pub hindrance-free : (m : Room) (o n k l f : ℕ) → (eqb o 0 && ltb 0 n) ≡ false → l ≤ 64 → o < 64 → n < m .nodes → (k ≤ f → k < m .names) → hindrance m o n k l f ≡ None
+hindrance-free : (m : Room) (o n k l f : ℕ) → (eqb o 0 && ltb 0 n) ≡ false → l ≤ 64 → o < 64 → n < m .nodes → (k ≤ f → k < m .names) → hindrance m o n k l f ≡ None
 hindrance-free m o n k l f a b c d e =
     cond-false (eqb o 0 && ltb 0 n) (Some Outside) _ a
     ∙ cond-false (ltb 64 l) (Some LongName) _ (le-ltb 64 l b)
@@ -44,12 +44,12 @@ hindrance-free m o n k l f a b c d e =
     ∙ cond-false (leb (m .nodes) n) (Some NodesFull) _ (lt-leb (m .nodes) n d)
     ∙ cond-false (leb k f && leb (m .names) k) (Some NamesFull) None (⊎-elim (λ h. and-left (leb k f) (leb (m .names) k) (lt-leb k f h)) (λ h. and-right (leb k f) (leb (m .names) k) (lt-leb (m .names) k (e h))) (cases-lt f k))
 
-pub enter-fits : (m : Room) (p d : ℕ) (os : List (List ℕ)) (h : Held) (n : List ℕ) → length os ≡ d → (eqb (length os) 0 && ltb 0 (length (h .nodes))) ≡ false → Fits m h (entry n (d + 1) p) → enter m p (seen-with os h) n ≡ Ok (seen-with os (add h (entry n (d + 1) p)))
+enter-fits : (m : Room) (p d : ℕ) (os : List (List ℕ)) (h : Held) (n : List ℕ) → length os ≡ d → (eqb (length os) 0 && ltb 0 (length (h .nodes))) ≡ false → Fits m h (entry n (d + 1) p) → enter m p (seen-with os h) n ≡ Ok (seen-with os (add h (entry n (d + 1) p)))
 enter-fits m p d os h n e inside fits =
     ap (refused-or p (grown p (seen-with os h) n)) (hindrance-free m (length os) (length (h .nodes)) (length (h .names)) (length n) (before n (h .names)) inside (fits .short) (omega (arith, fits .shallow)) (fits .nodes) (fits .names))
     ∙ ap (λ (z : ℕ). Ok (seen-with os (add h (entry n (z + 1) p)))) e
 
-pub grow-more : (h : Held) (es fs : List Entry) → grow h (es ++ fs) ≡ grow (grow h es) fs
+grow-more : (h : Held) (es fs : List Entry) → grow h (es ++ fs) ≡ grow (grow h es) fs
 grow-more h [] fs = refl
 grow-more h (e ∷ es) fs = grow-more (add h e) es fs
 
@@ -63,7 +63,7 @@ fit-right m h (e ∷ es) fs a = fit-right m (add h e) es fs (a .1)
 
 module _ (m : Room) (n : ℕ) where
   -- reading goes from s to r, and what was seen becomes next
-  abbrev pub Goes : Seen → List ℕ → Seen → List ℕ → Type 0
+  abbrev Goes : Seen → List ℕ → Seen → List ℕ → Type 0
   Goes seen s next r = (f : ℕ) → length s ≤ f → (g : ℕ) × (length r ≤ g) × (run m n next (pieces g n r) ≡ run m n seen (pieces f n s))
 
   goes-on : (a b c : Seen) (s t r : List ℕ) → Goes a s b t → Goes b t c r → Goes a s c r

@@ -20,7 +20,7 @@ use Rattle.plan.specs.declared.fault.Rule.the-variants.{Outside, LongName, Too
 use Rattle.plan.specs.Plans.{with-name, grown, hindrance, refused-or, enter}
 use Rattle.names.specs.Lists.{before, texts}
 use Rattle.plan.specs.Reads.{known, seen-of}
-use Rattle.tags.proofs.Sound.{none-some}
+use Rattle.names.proofs.Found.{none-some}
 use Rattle.plan.proofs.Known.{known-length}
 
 cond-none : {A : Type 0} (b : Bool) (x : A) (o : Option A) → cond b (Some x) o ≡ None → (b ≡ false) × (o ≡ None)

@@ -44,7 +44,7 @@ AllFit m h [] = Unit {0}
 AllFit m h (e ∷ es) = Fits m h e × AllFit m (add h e) es
 
 -- a known name keeps its number
-pub before-append : (n : List ℕ) (ms more : List (List ℕ)) → before n ms < length ms → before n (ms ++ more) ≡ before n ms
+before-append : (n : List ℕ) (ms more : List (List ℕ)) → before n ms < length ms → before n (ms ++ more) ≡ before n ms
 before-append n [] more h = absurd (omega arith)
 before-append n (m ∷ ms) more h = go (before-append n ms more) (sameBytes m n) h
   where

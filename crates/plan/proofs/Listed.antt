@@ -1,8 +1,8 @@
--- The names of a derivation are a list of names, with the name of each node among them.
-use mathlib.Core.Path.{_≡_, refl, sym, ap, subst, _∙_}
+-- The names of a derivation are distinct, well-formed and short.
+use mathlib.Core.Path.{_≡_, sym, subst, _∙_}
 use mathlib.Core.List.{List, [], _∷_, _++_}
 use mathlib.Core.Logic.{⊎-elim}
-use Prim.Native.Nat.{ℕ, suc, _+_, _≤_, _<_, min}
+use Prim.Native.Nat.{ℕ, _≤_, _<_}
 use native.Mathlib.Omega.{arith}
 use lib.ListN.{length, getD, length-append}
 use Rattle.std.specs.Iters.{folded}
@@ -12,12 +12,11 @@ use Rattle.std.proofs.shelf.Elements.{all-append, all-push}
 use Rattle.std.proofs.shelf.Tests.{cases-lt}
 use Rattle.names.specs.Words.{Word}
 use Rattle.names.specs.Lists.{before, Short-name, Name-list}
-use Rattle.names.proofs.Finds.{before-le}
 use Rattle.names.proofs.Names.{before-first}
 use Rattle.tree.specs.declared.slot.Slot.{Slot}
 use Rattle.plan.specs.declared.counts.Counts.{Counts}
 use Rattle.plan.specs.Plans.{with-name, room}
-use Rattle.plan.specs.Documents.{Entry, Element, alone, around, Content, none, byte, child, names-of, Derived}
+use Rattle.plan.specs.Documents.{Entry, Element, alone, around, Content, none, byte, child, Derived}
 use Rattle.plan.proofs.Held.{with-known, with-new}
 
 mutual

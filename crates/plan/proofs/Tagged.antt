@@ -1,4 +1,4 @@
--- The place of each node of a derivation is that of its tag in the text.
+-- The place of each node of a derivation is that of its tag in the text, and its name is among the names.
 use mathlib.Core.Path.{_≡_, refl, sym, ap, subst, _∙_}
 use mathlib.Core.List.{List, [], _∷_, _++_, map}
 use mathlib.Core.Logic.{⊎-elim}

@@ -1,6 +1,5 @@
 pub mod Faults
 pub mod Plans
-pub mod Worked
 pub mod Reads
 pub mod Documents
 pub mod Trees

@@ -1,7 +1,10 @@
--- What the reader's slots hold.
+-- What the slots hold while a plan text is read, and afterwards.
+--     room-in ns ms         how many nodes and names there is room for in the slots ns and ms
+--     known k ms            the names in the first k slots
 --     seen-of os ns ms c    what was seen, from the open names, the slots and the counts
 --     taken r os ns ms      the same behind a result
 --     Filled f done was is  the slots were `was` and are `is`: the first ones hold `done`, all others what they held
+--     Reading text r ns ns′ ms ms′   reading the text answers r as its outcome says, and fills the slots with what was read
 use mathlib.Core.Path.{_≡_}
 use mathlib.Core.Bool.{Bool, false}
 use mathlib.Core.List.{List, [], _∷_, map}
@@ -18,11 +21,9 @@ use Rattle.plan.specs.declared.fault.PlanFault.{PlanFault}
 use Rattle.plan.specs.Plans.{Seen, room, outcome}
 use Rattle.names.specs.Lists.{texts}
 
--- how many nodes and names there is room for in these slots
 abbrev pub room-in : List Slot → List (RefT (List ℕ)) → Room
 room-in ns ms = room (length ns) (length ms)
 
--- the names in the first k slots
 abbrev pub known : ℕ → List (RefT (List ℕ)) → List (List ℕ)
 known k ms = texts (take k ms)
 
@@ -68,6 +69,5 @@ pub record Read (o : Result Counts PlanFault × Seen) (r : Result Counts PlanFau
   pub nodes : Filled (λ (s : Slot). s) (o .1 .nodes) ns ns′
   pub names : Filled now (o .1 .names) ms ms′
 
--- the same of the outcome of the text, with the room that the slots give
 abbrev pub Reading : List ℕ → Result Counts PlanFault → List Slot → List Slot → List (RefT (List ℕ)) → List (RefT (List ℕ)) → Type 0
 Reading text r ns ns′ ms ms′ = Read (outcome (room-in ns ms) text) r ns ns′ ms ms′

@@ -1,7 +1,8 @@
 -- What the slots of an accepted plan hold: a tree, a list of names, and the places of tags. Assumes nothing.
---     Placed text ms s       the slot s has the place of a `<`, and the name among ms that its label numbers stands behind that
---     Plan text ns ms        the nodes ns and the names ms are those of a plan
---     Planned text r ns ms   a reading that answered r left the nodes and names of a plan in the slots ns and ms
+--     Placed text ms s           the slot s has the place of a `<`, and the name among ms that its label numbers stands behind that
+--     Plan text ns ms            the nodes ns and the names ms are those of a plan
+--     Filled-plan text c ns ms   the first slots of ns and ms, as many as c counts, hold a plan
+--     Planned text r ns ms       a reading that answered r left the nodes and names of a plan in the slots ns and ms
 use mathlib.Core.Path.{_≡_}
 use mathlib.Core.List.{List, []}
 use Prim.Native.Nat.{ℕ, _+_, _-_, _≤_}
@@ -28,7 +29,6 @@ pub record Plan (text : List ℕ) (ns : List Slot) (ms : List (List ℕ)) : Type
   pub names : Name-list ms
   pub places : All (Placed text ms) ns
 
--- the first slots, as many as c counts, hold a plan
 pub record Filled-plan (text : List ℕ) (c : Counts) (ns : List Slot) (ms : List (RefT (List ℕ))) : Type 0 where
   pub nodes : c .nodes ≤ length ns
   pub names : c .names ≤ length ms

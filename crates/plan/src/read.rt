@@ -53,13 +53,13 @@ fn refused(rule: Rule, place: usize) -> PlanFault
     }
 }
 
-// Why a node cannot be added, whose name has `length` bytes and `found` known names before it.
-fn hindrance(depth: usize, counts: Counts, room: Room, length: usize, found: usize) -> Option<Rule>
-    ensures { λ r. ⌜ r ≡ hindranceOf room depth (counts .nodes) (counts .names) length found ⌝ }
+// Why a node cannot be added, whose name has `size` bytes and `found` known names before it.
+fn hindrance(depth: usize, counts: Counts, room: Room, size: usize, found: usize) -> Option<Rule>
+    ensures { λ r. ⌜ r ≡ hindranceOf room depth (counts .nodes) (counts .names) size found ⌝ }
 {
     if depth == 0 && counts.nodes > 0 {
         Some(Rule::Outside)
-    } else if length > LONGEST_NAME {
+    } else if size > LONGEST_NAME {
         Some(Rule::LongName)
     } else if depth >= MOST_DEPTH {
         Some(Rule::TooDeep)

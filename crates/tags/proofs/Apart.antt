@@ -5,7 +5,6 @@ use Prim.Native.Nat.{ℕ}
 use native.Mathlib.Omega.{arith}
 use lib.Dec.{eqb}
 use Rattle.std.proofs.shelf.Ways.{tells}
-use Rattle.std.proofs.shelf.Tests.{or-left}
 use Rattle.names.specs.Bytes.{white, name-start, name-byte}
 use Rattle.tags.specs.Values.{quote}
 
@@ -15,14 +14,8 @@ white-no-name b h = grind (arith, tells)
 pub start-no-white : (b : ℕ) → name-start b ≡ true → white b ≡ false
 start-no-white b h = grind (arith, tells)
 
-pub start-no-slash : (b : ℕ) → name-start b ≡ true → eqb b 47 ≡ false
-start-no-slash b h = grind (arith, tells)
-
 pub quote-no-white : (b : ℕ) → quote b ≡ true → white b ≡ false
 quote-no-white b h = grind (arith, tells)
-
-pub start-is-name : (b : ℕ) → name-start b ≡ true → name-byte b ≡ true
-start-is-name b h = or-left _ _ h
 
 pub white-no-tag : (b : ℕ) → white b ≡ true → b ≡ 60 → ⊥
 white-no-tag b h e = grind (arith, tells)

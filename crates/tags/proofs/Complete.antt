@@ -14,21 +14,12 @@ use Rattle.names.specs.Bytes.{white, name-start, name-byte}
 use Rattle.tags.specs.Values.{quote, in-value}
 use Rattle.tags.specs.Tags.{Tag, start, empty, end, Run, Name, Gap, Value, Attribute, Attributes, none, more, TagAt, closed, quoted, valued, attribute, and-then, attributes, close, opening, ended, ending, inside, scan}
 use Rattle.names.specs.Words.{Word, after, front, begins}
-use Rattle.tags.proofs.Apart.{white-no-name, start-no-white, start-no-slash, quote-no-white, start-is-name}
+use Rattle.tags.proofs.Apart.{white-no-name, start-no-white, quote-no-white}
 use Rattle.tags.proofs.Attributes.{shorter}
-use Rattle.tags.proofs.Sound.{some-same}
+use Rattle.names.proofs.Apart.{start-no-slash, start-is-name}
+use Rattle.names.proofs.Found.{some-same}
+use Rattle.names.proofs.Runs.{after-append, front-append}
 use Rattle.tags.specs.Grammar.{One-tag}
-
--- a run is the longest one if what follows does not go on with it
-after-append : (p : ℕ → Bool) (w r : List ℕ) → All (λ b. p b ≡ true) w → begins p r ≡ false → after p (w ++ r) ≡ r
-after-append p [] [] a h = refl
-after-append p [] (b ∷ r) a h = cond-false (p b) (after p r) (b ∷ r) h
-after-append p (b ∷ w) r a h = cond-true (p b) (after p (w ++ r)) (b ∷ (w ++ r)) (a .0) ∙ after-append p w r (a .1) h
-
-front-append : (p : ℕ → Bool) (w r : List ℕ) → All (λ b. p b ≡ true) w → begins p r ≡ false → front p (w ++ r) ≡ w
-front-append p [] [] a h = refl
-front-append p [] (b ∷ r) a h = cond-false (p b) (b ∷ front p r) [] h
-front-append p (b ∷ w) r a h = cond-true (p b) (b ∷ front p (w ++ r)) [] (a .0) ∙ ap (λ (z : List ℕ). b ∷ z) (front-append p w r (a .1) h)
 
 after-run : (p : ℕ → Bool) (s r : List ℕ) → Run p s r → begins p r ≡ false → after p s ≡ r
 after-run p s r u h = ap (after p) (u .2) ∙ after-append p (u .0) r (u .1) h

@@ -11,7 +11,8 @@ use Rattle.std.specs.declared.option.Option.{Option}
 use Rattle.std.specs.declared.option.Option.the-variants.{Some, None}
 use Rattle.tags.specs.Tags.{Tag, start, empty, end, TagAt, scan}
 use Rattle.tags.specs.Pieces.{Piece, byte, tag, no-tag, tagged, first}
-use Rattle.tags.proofs.Sound.{scan-sound, none-some, some-same}
+use Rattle.tags.proofs.Sound.{scan-sound}
+use Rattle.names.proofs.Found.{none-some, some-same}
 use Rattle.tags.proofs.Complete.{scan-complete}
 use Rattle.tags.proofs.Ends.{scan-shorter}
 

@@ -13,7 +13,8 @@ use Rattle.std.specs.declared.option.Option.the-variants.{Some, None}
 use Rattle.tags.specs.Tags.{Tag, TagAt, scan, placed}
 use Rattle.tags.specs.Pieces.{Piece, byte, tag, no-tag, tagged, first, next-piece, Tag-named}
 use Rattle.names.proofs.Runs.{at-none}
-use Rattle.tags.proofs.Sound.{none-some, some-same, scan-sound}
+use Rattle.tags.proofs.Sound.{scan-sound}
+use Rattle.names.proofs.Found.{none-some, some-same}
 use Rattle.tags.proofs.Named.{tag-named}
 use Rattle.tags.proofs.Ends.{Ends, ends-cons, ends-length, scan-ends}
 

@@ -14,12 +14,8 @@ use Rattle.names.specs.Bytes.{white, name-start, name-byte}
 use Rattle.tags.specs.Values.{quote, in-value}
 use Rattle.tags.specs.Tags.{start, end, closed, quoted, valued, close, shut, ended, ending, and-then, attributes, opening, inside, scan}
 use Rattle.names.specs.Words.{after, front}
-use Rattle.names.proofs.Runs.{at-first}
-use Rattle.tags.proofs.Apart.{start-no-slash}
-
--- the rest of a text after its first byte, as a slice pattern gives it
-abbrev pub tl : List ℕ → List ℕ
-tl s = take (length s - 1) (drop 1 s)
+use Rattle.names.proofs.Runs.{tl, at-first}
+use Rattle.names.proofs.Apart.{start-no-slash}
 
 pub closed-yes : (q : ℕ) (s : List ℕ) → 1 ≤ length s → getD s 0 0 ≡ q → closed q s ≡ Some (tl s)
 closed-yes q s h e = at-first (closed q) s h ∙ cond-true (eqb (getD s 0 0) q) (Some (tl s)) None (eq-eqb (getD s 0 0) q e)
@@ -35,16 +31,6 @@ valued-yes s h e = at-first valued s h ∙ cond-true (eqb (getD s 0 0) 61) (quot
 
 pub close-start : (n s : List ℕ) → 1 ≤ length s → getD s 0 0 ≡ 62 → close n s ≡ Some (start n, tl s)
 close-start n s h e = at-first (close n) s h ∙ cond-true (eqb (getD s 0 0) 62) (Some (start n, tl s)) (cond (eqb (getD s 0 0) 47) (shut n (tl s)) None) (eq-eqb (getD s 0 0) 62 e)
-
--- the rest after two bytes, as a slice pattern gives it
-two-and-rest : (s : List ℕ) → 2 ≤ length s → s ≡ getD s 0 0 ∷ getD s 1 0 ∷ take (length s - 2) (drop 2 s)
-two-and-rest [] h = absurd (omega arith)
-two-and-rest (a ∷ []) h = absurd (omega arith)
-two-and-rest (a ∷ b ∷ s) h = ap (λ (z : List ℕ). a ∷ b ∷ z) (sym (take-rest (a ∷ b ∷ s) 2))
-
--- a text that begins with two known bytes
-pub with-two : (s : List ℕ) (a b : ℕ) → 2 ≤ length s → getD s 0 0 ≡ a → getD s 1 0 ≡ b → s ≡ a ∷ b ∷ take (length s - 2) (drop 2 s)
-with-two s a b h p q = two-and-rest s h ∙ ap (λ z. z ∷ getD s 1 0 ∷ take (length s - 2) (drop 2 s)) p ∙ ap (λ z. a ∷ z ∷ take (length s - 2) (drop 2 s)) q
 
 pub ended-yes : (n s : List ℕ) → 1 ≤ length s → getD s 0 0 ≡ 62 → ended n s ≡ Some (end n, tl s)
 ended-yes n s h e = at-first (ended n) s h ∙ cond-true (eqb (getD s 0 0) 62) (Some (end n, tl s)) None (eq-eqb (getD s 0 0) 62 e)

@@ -15,34 +15,13 @@ use Rattle.names.specs.Bytes.{white, name-start, name-byte}
 use Rattle.tags.specs.Values.{quote, in-value}
 use Rattle.tags.specs.Tags.{Tag, start, empty, end, Run, Name, Gap, Value, Attribute, Attributes, none, more, TagAt, closed, quoted, valued, attribute, and-then, attributes, shut, close, opening, ended, ending, inside, scan}
 use Rattle.names.specs.Words.{Word, after, front, begins}
-use Rattle.names.proofs.Runs.{split, after-le}
-use Rattle.tags.proofs.Apart.{start-is-name}
-
-pub none-some : {A : Type 0} (x : A) → None ≡ Some x → ⊥
-none-some x e = let z : _≡_ {A = ℕ} 0 1 = cc in omega arith
-
-pub some-same : {A : Type 0} (x y : A) → Some x ≡ Some y → x ≡ y
-some-same x y e = cc
-
-cond-some : {A : Type 0} (b : Bool) (o : Option A) (x : A) → cond b o None ≡ Some x → (b ≡ true) × (o ≡ Some x)
-cond-some true o x e = (refl, e)
-cond-some false o x e = absurd (none-some x e)
-
-cond-either : {A : Type 0} (b : Bool) (o p : Option A) (x : A) → cond b o p ≡ Some x → ((b ≡ true) × (o ≡ Some x)) ⊎ ((b ≡ false) × (p ≡ Some x))
-cond-either true o p x e = inl (refl, e)
-cond-either false o p x e = inr (refl, e)
+use Rattle.names.proofs.Runs.{split, after-le, all-front}
+use Rattle.names.proofs.Found.{none-some, some-same, cond-some, cond-either}
+use Rattle.names.proofs.Apart.{start-is-name}
 
 then-some : {A B : Type 0} (o : Option A) (f : A → Option B) (y : B) → and-then o f ≡ Some y → (x : A) × (o ≡ Some x) × (f x ≡ Some y)
 then-some (Some x) f y e = (x, refl, e)
 then-some None f y e = absurd (none-some y e)
-
-all-front : (p : ℕ → Bool) (s : List ℕ) → All (λ b. p b ≡ true) (front p s)
-all-front p [] = tt
-all-front p (b ∷ s) = go (p b) refl (all-front p s)
-  where
-    go : (c : Bool) → p b ≡ c → All (λ z. p z ≡ true) (front p s) → All (λ z. p z ≡ true) (cond c (b ∷ front p s) [])
-    go true e r = (e, r)
-    go false e r = tt
 
 run-after : (p : ℕ → Bool) (s r : List ℕ) → after p s ≡ r → Run p s r
 run-after p s r e = (front p s, all-front p s, split p s ∙ ap (λ (z : List ℕ). front p s ++ z) e)

@@ -18,7 +18,8 @@ mod tests {
     use tree::refusal::Refusal;
     use tree::slot::Slot;
 
-    static PLAN: &[u8] = b"<PLAN><MON><LESSON/><DRAFT><LESSON/></DRAFT></MON><TUE><LESSON/></TUE></PLAN>";
+    static PLAN: &[u8] =
+        b"<PLAN><MON><LESSON/><DRAFT><LESSON/></DRAFT></MON><TUE><LESSON/></TUE></PLAN>";
 
     const EMPTY: Slot = Slot {
         label: 0,
@@ -79,8 +80,14 @@ mod tests {
         check_eq(outcome(with_name(heap, 65)?.as_slice()), (6, 0, false))?;
         check_eq(outcome(nested(heap, 64)?.as_slice()), (64, 1, true))?;
         check_eq(outcome(nested(heap, 65)?.as_slice()), (7, 192, false))?;
-        check_eq(outcome(repeated(heap, b" ", 65536)?.as_slice()), (5, 65536, false))?;
-        check_eq(outcome(repeated(heap, b" ", 65537)?.as_slice()), (1, 0, false))
+        check_eq(
+            outcome(repeated(heap, b" ", 65536)?.as_slice()),
+            (5, 65536, false),
+        )?;
+        check_eq(
+            outcome(repeated(heap, b" ", 65537)?.as_slice()),
+            (1, 0, false),
+        )
     }
 
     // Whether the worked plan answers a question with this line.
@@ -90,7 +97,8 @@ mod tests {
         let mut nodes = vec![in heap; EMPTY; 8]?;
         let mut names = vec![in heap; text; 8]?;
         let mut plan = Plan::new();
-        if plan.open(text, nodes.as_mut_slice(), names.as_mut_slice()).is_err() {
+        if plan.open(text, nodes.as_mut_slice(), names.as_mut_slice())
+            .is_err() {
             return Ok(false);
         }
         let answer = plan.answer(heap, question)?;
@@ -120,6 +128,12 @@ mod tests {
         check(answers(heap, longest.as_slice(), b"refused 41 at 0\n")?)?;
         check(answers(heap, b"", b"refused 41 at 0\n")?)?;
         check(answers(heap, repeated(heap, b"//*", 32)?.as_slice(), b"0\n")?)?;
-        check(answers(heap, repeated(heap, b"//*", 33)?.as_slice(), b"refused 43 at 96\n")?)
+        check(
+            answers(
+                heap,
+                repeated(heap, b"//*", 33)?.as_slice(),
+                b"refused 43 at 96\n",
+            )?,
+        )
     }
 }

@@ -101,6 +101,10 @@ pub impl<'a> Tree for Table<'a> as TableTree {
     }
 
     fn origin(&self, node: u16) -> u16 {
-        if node as usize <= self.slots.len() { node } else { 0 }
+        if node as usize <= self.slots.len() {
+            node
+        } else {
+            0
+        }
     }
 }

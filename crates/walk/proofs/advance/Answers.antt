@@ -27,13 +27,13 @@ returns g c =
     let deep = next-depth ns q node-limit laws m d st kept (c .pre .low) (c .pre .high) (c .pre .marks) (c .depth .ensures) in
     let o = open-parent ns q node-limit laws m d st kept (c .pre .low) (c .pre .high) (c .pre .marks) (c .depth .ensures) (c .cut .ensures .items) in
     let p : Marked ns q (parent ns m) (c .match-top .parent) =
-        elim (c .match-top .came) [
-          in-Some w ↦ subst (Marked ns q (parent ns m)) (sym (w .parent-is)) (open-top ns q (parent ns m) _ (drop 1 kept) kept o (w .in-Some .ensures tt))
-        | in-None w ↦ absurd (open-some ns q (parent ns m) kept o (w .in-None .ensures tt))
-        ] in
+    elim (c .match-top .came) [
+      | in-Some w ↦ subst (Marked ns q (parent ns m)) (sym (w .parent-is)) (open-top ns q (parent ns m) _ (drop 1 kept) kept o (w .in-Some .ensures tt))
+      | in-None w ↦ absurd (open-some ns q (parent ns m) kept o (w .in-None .ensures tt))
+    ] in
     let w = c .word-here .result in
     let bits : (i : ℕ) → i < length q → bit w (suc i) ≡ hit (getD q i anyStep) i (c .match-top .parent) (labelAt ns m) =
-        λ i l. subst (λ (x : ℕ). bit w (suc i) ≡ hit (getD q i anyStep) i (c .match-top .parent) x) (c .label .ensures) (c .word-here .ensures .bits i l) in
+    λ i l. subst (λ (x : ℕ). bit w (suc i) ≡ hit (getD q i anyStep) i (c .match-top .parent) x) (c .label .ensures) (c .word-here .ensures .bits i l) in
     let marked = marked-below ns q m (c .match-top .parent) w (c .pre .low) (c .pre .high) p (c .word-here .ensures .none) bits in
     let long : length kept ≡ length st - (length st - d) = ap length (c .cut .ensures .items) ∙ length-drop (length st - d) st in
     let wide : length (lent (c .cut .last .self)) ≡ 65 = ap length (c .cut .ensures .slots) ∙ c .pre .room in

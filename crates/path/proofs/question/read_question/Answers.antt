@@ -41,7 +41,7 @@ pub loop-rest-again : need.loop-rest-again
 loop-rest-again c =
     let few : c .loop-rest .count < c .min-most .result = omega (arith, c .loop-rest .inv .few) in
     one-more (listed (c .args .names .now)) (c .min-most .result) (c .args .text .now) (c .args .steps .now) (c .loop-rest .count) (c .loop-rest .rest .now) (c .loop-rest .steps) (c .loop-rest .inv)
-        (c .in-Some .step) (c .in-Some .behind .now) (c .in-Some .ensures tt) few (omega (arith, c .min-most .ensures))
+    (c .in-Some .step) (c .in-Some .behind .now) (c .in-Some .ensures tt) few (omega (arith, c .min-most .ensures))
 
 pub returns : need.returns
 returns c =

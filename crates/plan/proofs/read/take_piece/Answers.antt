@@ -9,7 +9,7 @@ use Rattle.tags.specs.declared.token.Piece as declared
 use Rattle.tags.specs.declared.token.Piece.the-variants.{Tag}
 use Rattle.tags.specs.declared.token.Token.the-variants.{Start}
 use Rattle.tags.specs.Readers.{piece-of, piece-place}
-use Rattle.tree.specs.Stacks.{items, lent}
+use Rattle.tree.specs.Stacks.{items}
 use Rattle.plan.specs.Plans.{room, step}
 use Rattle.plan.specs.Reads.{seen-of}
 use Rattle.plan.proofs.Steps.{pass-yes, pass-no, enter-ok, pushed-open, opened-is}

@@ -5,7 +5,8 @@ use Prim.Native.Nat.{ℕ}
 use borrow.Author.Needs.{needs}
 use borrow.Author.Tests.{ltb-false}
 use Rattle.tags.specs.Tags.{close, placed}
-use Rattle.tags.proofs.Scans.{close-start, with-two}
+use Rattle.tags.proofs.Scans.{close-start}
+use Rattle.names.proofs.Runs.{with-two}
 use Rattle.tags.proofs.tag.close.Needs as need
 
 pub returns-in-47 : need.returns-in-47

@@ -5,7 +5,8 @@ use Prim.Native.Nat.{ℕ}
 use borrow.Author.Needs.{needs}
 use borrow.Author.Tests.{ltb-false}
 use Rattle.tags.specs.Tags.{scan, placed}
-use Rattle.tags.proofs.Scans.{with-two, scan-opening}
+use Rattle.tags.proofs.Scans.{scan-opening}
+use Rattle.names.proofs.Runs.{with-two}
 use Rattle.tags.proofs.tag.scan.Needs as need
 
 pub returns-in-60 : need.returns-in-60
