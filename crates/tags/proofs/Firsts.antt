@@ -6,11 +6,11 @@ use Prim.Native.Nat.{ℕ, suc, _<_}
 use native.Mathlib.Omega.{arith}
 use lib.Dec.{eqb}
 use lib.ListN.{length}
-use Rattle.std.proofs.shelf.Tests.{cond-false, eqb-false, ne-eqb}
+use Rattle.std.proofs.shelf.Tests.{cond-false, eqb-true, eqb-false, ne-eqb}
 use Rattle.std.specs.declared.option.Option.{Option}
 use Rattle.std.specs.declared.option.Option.the-variants.{Some, None}
 use Rattle.tags.specs.Tags.{Tag, start, empty, end, TagAt, scan}
-use Rattle.tags.specs.Pieces.{Piece, byte, tag, no-tag, tagged, first}
+use Rattle.tags.specs.Pieces.{Piece, byte, tag, no-tag, tagged, first, Piece-at}
 use Rattle.tags.proofs.Sound.{scan-sound}
 use Rattle.names.proofs.Found.{none-some, some-same}
 use Rattle.tags.proofs.Complete.{scan-complete}
@@ -34,25 +34,20 @@ pub first-none : (s : List ℕ) → first s ≡ None → length s ≡ 0
 first-none [] e = refl
 first-none (b ∷ s) e = absurd (none-some _ (sym e))
 
--- what the first piece of a text tells of it
-abbrev pub PieceAt : List ℕ → Piece → List ℕ → Type 0
-PieceAt s (byte b) r = (s ≡ b ∷ r) × (b ≡ 60 → ⊥)
-PieceAt s (tag t) r = TagAt s t r
-PieceAt s no-tag r = Unit {0}
-
-pub piece-at : (s : List ℕ) (p : Piece) (r : List ℕ) → first s ≡ Some (p, r) → PieceAt s p r
+-- the first piece of a text is that of the grammar
+pub piece-at : (s : List ℕ) (p : Piece) (r : List ℕ) → first s ≡ Some (p, r) → Piece-at s p r
 piece-at [] p r e = absurd (none-some (p, r) e)
 piece-at (b ∷ s) p r e = go (eqb b 60) refl (some-same _ (p, r) e)
   where
-    move : (q : Piece) (t : List ℕ) → _≡_ {A = Piece × List ℕ} (q, t) (p, r) → PieceAt (b ∷ s) q t → PieceAt (b ∷ s) p r
-    move q t h k = subst (λ (z : Piece × List ℕ). PieceAt (b ∷ s) (z .0) (z .1)) h k
+    move : (q : Piece) (t : List ℕ) → _≡_ {A = Piece × List ℕ} (q, t) (p, r) → Piece-at (b ∷ s) q t → Piece-at (b ∷ s) p r
+    move q t h k = subst (λ (z : Piece × List ℕ). Piece-at (b ∷ s) (z .0) (z .1)) h k
 
-    at-tag : (o : Option (Tag × List ℕ)) → scan (b ∷ s) ≡ o → tagged s o ≡ (p, r) → PieceAt (b ∷ s) p r
-    at-tag (Some t) d h = move (tag (t .0)) (t .1) h (scan-sound (b ∷ s) (t .0) (t .1) d)
-    at-tag None d h = move no-tag s h tt
+    at-tag : (o : Option (Tag × List ℕ)) → scan (b ∷ s) ≡ o → eqb b 60 ≡ true → tagged s o ≡ (p, r) → Piece-at (b ∷ s) p r
+    at-tag (Some t) d c h = move (tag (t .0)) (t .1) h (scan-sound (b ∷ s) (t .0) (t .1) d)
+    at-tag None d c h = move no-tag s h (ap (λ (z : ℕ). z ∷ s) (eqb-true b 60 c), λ t q k. none-some (t, q) (sym d ∙ scan-complete (b ∷ s) t q k))
 
-    go : (c : Bool) → eqb b 60 ≡ c → cond c (tagged s (scan (b ∷ s))) (byte b, s) ≡ (p, r) → PieceAt (b ∷ s) p r
-    go true d h = at-tag (scan (b ∷ s)) refl h
+    go : (c : Bool) → eqb b 60 ≡ c → cond c (tagged s (scan (b ∷ s))) (byte b, s) ≡ (p, r) → Piece-at (b ∷ s) p r
+    go true d h = at-tag (scan (b ∷ s)) refl d h
     go false d h = move (byte b) s h (refl, eqb-false b 60 d)
 
 -- where a tag begins a text, it is the first piece

@@ -1,20 +1,21 @@
 -- A reader's next piece, by the text and the place.
 use mathlib.Core.Path.{_≡_, refl, sym, ap, ap₂, subst, _∙_}
-use mathlib.Core.List.{List, _∷_, _++_, append-assoc}
+use mathlib.Core.List.{List, [], _∷_, _++_, append-assoc}
 use Prim.Native.Nat.{ℕ, _+_, _-_, _≤_, _<_}
 use native.Mathlib.Omega.{arith}
 use lib.Dec.{eqb}
 use lib.ListN.{length, getD, take, drop, length-drop, take-append-drop}
-use Rattle.std.proofs.shelf.Lists.{take-rest, drop-more}
+use Rattle.std.proofs.shelf.Lists.{take-rest, drop-more, nil-from-length}
 use Rattle.std.proofs.shelf.Fronts.{end-rest}
 use Rattle.std.proofs.shelf.Tests.{eq-eqb, ne-eqb, cond-true, cond-false}
 use Rattle.std.specs.declared.option.Option.{Option}
 use Rattle.std.specs.declared.option.Option.the-variants.{Some, None}
 use Rattle.tags.specs.Tags.{Tag, TagAt, scan, placed}
-use Rattle.tags.specs.Pieces.{Piece, byte, tag, no-tag, tagged, first, next-piece, Tag-named}
+use Rattle.tags.specs.Pieces.{Piece, byte, tag, no-tag, tagged, first, next-piece, Piece-at, Tag-named}
 use Rattle.names.proofs.Runs.{at-none}
 use Rattle.tags.proofs.Sound.{scan-sound}
 use Rattle.names.proofs.Found.{none-some, some-same}
+use Rattle.tags.proofs.Firsts.{piece-at, first-none}
 use Rattle.tags.proofs.Named.{tag-named}
 use Rattle.tags.proofs.Ends.{Ends, ends-cons, ends-length, scan-ends}
 
@@ -91,3 +92,10 @@ module _ (text : List ℕ) (p : ℕ) (within : p ≤ length text) where
         next-named =
             subst (λ (k : ℕ). Tag-named text k t) (sym same-place)
             (tag-named text p t r (subst (λ (z : List ℕ). TagAt z t r) (take-rest text p) (scan-sound (from text p) t r (sym same-tag))))
+
+-- a piece that was found is that of the grammar
+pub found-at : (n : ℕ) (s : List ℕ) (q : ℕ) (p : Piece) (r : List ℕ) → Some (q, p, r) ≡ next-piece n s → Piece-at s p r
+found-at n s q p r e = piece-at s p r (sym (placed-some (n - length s) q p r (first s) e .1))
+
+pub found-none : (n : ℕ) (s : List ℕ) → None ≡ next-piece n s → s ≡ []
+found-none n s e = nil-from-length s (first-none s (sym (placed-none (n - length s) (first s) e)))

@@ -1,6 +1,7 @@
 -- A text from left to right, as pieces with their places. Assumes nothing.
 --     first s                the first piece of the text s, and what follows it
 --     next-piece n s         its place, where s ends a text of n bytes, the piece, and what follows it
+--     Piece-at s p r         in the terms of the grammar, the text s begins with the piece p and r follows it
 --     pieces f n s           the pieces of s with their places; f is at least the length of s
 --     Tag-named text p t     the name of the tag t at the place p is a part of the text, behind `<` or `</`
 use mathlib.Core.Path.{_≡_}
@@ -11,7 +12,7 @@ use lib.Dec.{eqb}
 use lib.ListN.{length, take, drop}
 use Rattle.std.specs.declared.option.Option.{Option}
 use Rattle.std.specs.declared.option.Option.the-variants.{Some, None}
-use Rattle.tags.specs.Tags.{Tag, start, empty, end, scan, placed}
+use Rattle.tags.specs.Tags.{Tag, start, empty, end, TagAt, scan, placed}
 
 -- a byte of text, a tag, or a `<` where no tag begins
 pub data Piece : Type 0 where
@@ -27,6 +28,14 @@ tagged s None = (no-tag, s)
 abbrev pub first : List ℕ → Option (Piece × List ℕ)
 first [] = None
 first (b ∷ s) = Some (cond (eqb b 60) (tagged s (scan (b ∷ s))) (byte b, s))
+
+abbrev pub No-tag : List ℕ → Type 0
+No-tag s = (t : Tag) (r : List ℕ) → TagAt s t r → ⊥
+
+abbrev pub Piece-at : List ℕ → Piece → List ℕ → Type 0
+Piece-at s (byte b) r = (s ≡ b ∷ r) × (b ≡ 60 → ⊥)
+Piece-at s (tag t) r = TagAt s t r
+Piece-at s no-tag r = (s ≡ 60 ∷ r) × No-tag s
 
 abbrev pub next-piece : ℕ → List ℕ → Option (ℕ × Piece × List ℕ)
 next-piece n s = placed (n - length s) (first s)
