@@ -1,4 +1,5 @@
 pub mod Known
+pub mod Hashed
 pub mod Enters
 pub mod Steps
 pub mod Outcomes

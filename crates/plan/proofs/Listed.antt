@@ -1,23 +1,23 @@
 -- The names of a derivation are distinct, well-formed and short.
-use mathlib.Core.Path.{_≡_, sym, subst, _∙_}
-use mathlib.Core.List.{List, [], _∷_, _++_}
+use mathlib.Core.Path.{sym, subst}
+use mathlib.Core.List.{List, [], _∷_}
 use mathlib.Core.Logic.{⊎-elim}
-use Prim.Native.Nat.{ℕ, _≤_, _<_}
+use Prim.Native.Nat.{ℕ, _≤_}
 use native.Mathlib.Omega.{arith}
-use lib.ListN.{length, getD, length-append}
+use lib.ListN.{length}
 use Rattle.std.specs.Iters.{folded}
 use Rattle.std.specs.shelf.Lists.{All}
-use Rattle.std.proofs.shelf.Lists.{getD-append-left, getD-at}
 use Rattle.std.proofs.shelf.Elements.{all-append, all-push}
 use Rattle.std.proofs.shelf.Tests.{cases-lt}
 use Rattle.names.specs.Words.{Word}
 use Rattle.names.specs.Lists.{before, Short-name, Name-list}
-use Rattle.names.proofs.Names.{before-first}
 use Rattle.tree.specs.declared.slot.Slot.{Slot}
 use Rattle.plan.specs.declared.counts.Counts.{Counts}
 use Rattle.plan.specs.Plans.{with-name, room}
 use Rattle.plan.specs.Documents.{Entry, Element, alone, around, Content, none, byte, child, Derived}
+use Rattle.plan.specs.Hashes.{Distinct}
 use Rattle.plan.proofs.Held.{with-known, with-new}
+use Rattle.plan.proofs.Hashed.{distinct-new}
 
 mutual
   element-words : {n d : ℕ} {s r : List ℕ} {es : List Entry} → Element n d s r es → All (λ e. Word (e .name)) es
@@ -28,19 +28,6 @@ mutual
   content-words none = tt
   content-words (byte b x content) = content-words content
   content-words (child {es = es} {fs = fs} t element content) = all-append (λ e. Word (e .name)) es fs (element-words element) (content-words content)
-
-abbrev Distinct : List (List ℕ) → Type 0
-Distinct ms = (i j : ℕ) → i < j → j < length ms → getD ms i [] ≡ getD ms j [] → ⊥
-
--- a name that is not among distinct names makes one more of them
-distinct-new : (n : List ℕ) (ms : List (List ℕ)) → length ms ≤ before n ms → Distinct ms → Distinct (ms ++ n ∷ [])
-distinct-new n ms new d i j a b e =
-    let long = length-append ms (n ∷ []) in
-    let here : getD (ms ++ n ∷ []) i [] ≡ getD ms i [] = getD-append-left ms (n ∷ []) [] i (omega arith) in
-    ⊎-elim
-    (λ (l : j < length ms). d i j a l (sym here ∙ e ∙ getD-append-left ms (n ∷ []) [] j l))
-    (λ (l : length ms ≤ j). let last : length ms ≡ j = omega arith in omega (arith, before-first n ms i (omega arith) (sym here ∙ e ∙ getD-at ms n [] [] j last)))
-    (cases-lt j (length ms))
 
 -- what the names read so far keep
 record Good (ms : List (List ℕ)) : Type 0 where

@@ -1,4 +1,5 @@
 pub mod Faults
+pub mod Hashes
 pub mod Plans
 pub mod Reads
 pub mod Documents

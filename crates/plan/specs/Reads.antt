@@ -18,6 +18,8 @@ use Rattle.tree.specs.declared.slot.Slot.{Slot}
 use Rattle.plan.specs.declared.counts.Counts.{Counts}
 use Rattle.plan.specs.declared.counts.Room.{Room}
 use Rattle.plan.specs.declared.fault.PlanFault.{PlanFault}
+use Rattle.chains.specs.Chains.{Links}
+use Rattle.plan.specs.Hashes.{Findable}
 use Rattle.plan.specs.Plans.{Seen, room, outcome}
 use Rattle.names.specs.Lists.{texts}
 
@@ -38,6 +40,11 @@ taken (Err e) os ns ms = Err e
 abbrev pub Kept : {X : Type 0} → (Counts → ℕ) → Result Counts PlanFault → List X → List X → Type 0
 Kept f (Ok c) was is = drop (f c) is ≡ drop (f c) was
 Kept f (Err e) was is = is ≡ was
+
+-- the names that r counts, if any, can be found by the links l
+abbrev pub Findable-after : Result Counts PlanFault → List (RefT (List ℕ)) → Links → Type 0
+Findable-after (Ok c) ms l = Findable (known (c .names) ms) l
+Findable-after (Err e) ms l = Unit {0}
 
 pub record Filled {X Y : Type 0} (f : X → Y) (done : List Y) (was is : List X) : Type 0 where
   pub front : map f (take (length done) is) ≡ done

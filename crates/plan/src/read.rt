@@ -3,20 +3,24 @@ ghost use mathlib.Core.Path.{_≡_};
 ghost use mathlib.Core.List.{[]};
 ghost use Prim.Native.Nat.{_+_, _≤_, _<_};
 ghost use lib.ListN.{length, drop};
+ghost use Rattle.chains.specs.Chains.{links};
 ghost use Rattle.names.specs.Lists.{before as beforeOf};
 ghost use Rattle.tags.specs.Readers.{piece-of, piece-place};
 ghost use Rattle.tree.specs.Stacks.{items, lent};
 ghost use Rattle.plan.specs.Faults.{fault};
+ghost use Rattle.plan.specs.Hashes.{Findable};
 ghost use Rattle.plan.specs.Plans.{with-name, hindrance as hindranceOf, enter as enterOf, step as stepOf, passes as passesAt, finish-at};
-ghost use Rattle.plan.specs.Reads.{room-in, known, seen-of, taken, Kept, Within, Left, LeftOpen, Reading};
+ghost use Rattle.plan.specs.Reads.{room-in, known, seen-of, taken, Kept, Findable-after, Within, Left, LeftOpen, Reading};
 ghost use Rattle.plan.specs.Documents.{Judged};
 ghost use Rattle.plan.specs.Trees.{Planned};
 use crate::counts::Counts;
 use crate::counts::Room;
 use crate::fault::PlanFault;
 use crate::fault::Rule;
+use crate::find::NameChain;
+use crate::find::find_name;
+use crate::find::hash;
 use names::bytes::is_white;
-use names::find::find;
 use tags::reader::Reader;
 use tags::token::Piece;
 use tags::token::Tag;
@@ -73,7 +77,14 @@ fn hindrance(depth: usize, counts: Counts, room: Room, size: usize, found: usize
 }
 
 // Adds the name to the first `count` names unless it is among them, and answers how many there are then.
-fn add_name<'a>(names: &mut [&'a [u8]], count: u16, found: usize, name: &'a [u8]) -> u16
+fn add_name<'a>(
+    names: &mut [&'a [u8]],
+    chain: &mut NameChain,
+    count: u16,
+    found: usize,
+    name: &'a [u8],
+) -> u16
+    requires findable { ⌜ Findable (known count (now names)) (links (now chain)) ⌝ }
     requires within { ⌜ count ≤ length (now names) ⌝ }
     requires found { ⌜ found ≡ beforeOf (now name) (known count (now names)) ⌝ }
     requires fits { ⌜ (count ≤ found → (count < length (now names)) × (count < 512)) ⌝ }
@@ -82,11 +93,14 @@ fn add_name<'a>(names: &mut [&'a [u8]], count: u16, found: usize, name: &'a [u8]
     ensures bound { λ r. ⌜ r ≤ count + 1 ⌝ }
     ensures low { λ r. ⌜ count ≤ r ⌝ }
     ensures more { λ r. ⌜ (found < count → r ≡ count) ⌝ }
+    ensures findable { λ r. ⌜ Findable (known r (now (names .exit))) (links (now (chain .exit))) ⌝ }
 {
     if found < count as usize {
         return count;
     }
     names[found] = name;
+    let key = hash(name);
+    chain.hook(count, key);
     count + 1
 }
 
@@ -97,16 +111,19 @@ fn enter<'a>(
     counts: Counts,
     nodes: &mut [Slot],
     names: &mut [&'a [u8]],
+    chain: &mut NameChain,
 ) -> Result<Counts, PlanFault>
+    requires findable { ⌜ Findable (known (counts .names) (now names)) (links (now chain)) ⌝ }
     requires within { ⌜ Within (room-in (now nodes) (now names)) counts ⌝ }
     requires short { ⌜ tag .place ≤ 65536 ⌝ }
     ensures taken { λ r. ⌜ taken r (items (now (opened .entry))) (now (nodes .exit)) (now (names .exit)) ≡ enterOf (room-in (now (nodes .entry)) (now (names .entry))) (tag .entry .place) (seen-of (items (now (opened .entry))) (now (nodes .entry)) (now (names .entry)) counts) (now (tag .entry .name)) ⌝ }
     ensures nodes { λ r. ⌜ Kept (λ c. c .nodes) r (now (nodes .entry)) (now (nodes .exit)) ⌝ }
     ensures names { λ r. ⌜ Kept (λ c. c .names) r (now (names .entry)) (now (names .exit)) ⌝ }
     ensures within { λ r. ⌜ Left (room-in (now (nodes .entry)) (now (names .entry))) counts r ⌝ }
+    ensures findable { λ r. ⌜ Findable-after r (now (names .exit)) (links (now (chain .exit))) ⌝ }
 {
     let depth = opened.len();
-    let found = find(&names[0..counts.names as usize], tag.name);
+    let found = find_name(&names[0..counts.names as usize], chain, tag.name);
     if let Some(rule) = hindrance(depth, counts, room(nodes, names), tag.name.len(), found) {
         return Err(refused(rule, tag.place));
     }
@@ -115,7 +132,7 @@ fn enter<'a>(
         depth: depth as u16 + 1,
         place: tag.place as u32,
     };
-    let known = add_name(names, counts.names, found, tag.name);
+    let known = add_name(names, chain, counts.names, found, tag.name);
     Ok(Counts {
         nodes: counts.nodes + 1,
         names: known,
@@ -146,7 +163,9 @@ fn take_piece<'a>(
     counts: Counts,
     nodes: &mut [Slot],
     names: &mut [&'a [u8]],
+    chain: &mut NameChain,
 ) -> Result<Counts, PlanFault>
+    requires findable { ⌜ Findable (known (counts .names) (now names)) (links (now chain)) ⌝ }
     requires within { ⌜ Within (room-in (now nodes) (now names)) counts ⌝ }
     requires depth { ⌜ length (lent (now opened)) ≡ 64 ⌝ }
     requires short { ⌜ piece-place piece ≤ 65536 ⌝ }
@@ -154,6 +173,7 @@ fn take_piece<'a>(
     ensures nodes { λ r. ⌜ Kept (λ c. c .nodes) r (now (nodes .entry)) (now (nodes .exit)) ⌝ }
     ensures names { λ r. ⌜ Kept (λ c. c .names) r (now (names .entry)) (now (names .exit)) ⌝ }
     ensures within { λ r. ⌜ Left (room-in (now (nodes .entry)) (now (names .entry))) counts r ⌝ }
+    ensures findable { λ r. ⌜ Findable-after r (now (names .exit)) (links (now (chain .exit))) ⌝ }
     ensures depth { λ _. ⌜ length (lent (now (opened .exit))) ≡ 64 ⌝ }
 {
     match piece {
@@ -164,11 +184,11 @@ fn take_piece<'a>(
             Ok(counts)
         }
         Piece::Tag(Token::Start(tag)) => {
-            let more = enter(tag, opened, counts, nodes, names)?;
+            let more = enter(tag, opened, counts, nodes, names, chain)?;
             let _ = opened.push(tag.name);
             Ok(more)
         }
-        Piece::Tag(Token::Empty(tag)) => enter(tag, opened, counts, nodes, names),
+        Piece::Tag(Token::Empty(tag)) => enter(tag, opened, counts, nodes, names, chain),
         Piece::Tag(Token::End(tag)) => {
             if !leave(opened, tag.name) {
                 return Err(refused(Rule::WrongEnd, tag.place));
@@ -204,8 +224,9 @@ fn read_pieces<'a>(
 {
     let mut reader = Reader::new(text);
     let mut counts = Counts { nodes: 0, names: 0 };
+    let mut chain = NameChain::new();
     while let Some(piece) = reader.next() {
-        counts = take_piece(piece, opened, counts, nodes, names)?;
+        counts = take_piece(piece, opened, counts, nodes, names, &mut chain)?;
     }
     finish(opened.len(), counts, text.len())
 }

@@ -17,15 +17,15 @@ use Rattle.plan.proofs.Enters.{Free, hindrance-none, enter-is, grown-is}
 use Rattle.plan.proofs.read.enter.Needs as need
 use Rattle.plan.proofs.read.enter.Needs.{After-hindrance}
 
-found : (c : After-hindrance) → c .find-found .result ≡ before (c .args .tag .name .now) (known (c .args .counts .names) (c .args .names .now))
+found : (c : After-hindrance) → c .find-name-found .result ≡ before (c .args .tag .name .now) (known (c .args .counts .names) (c .args .names .now))
 found c =
     let whole : c .args .counts .names - 0 ≡ c .args .counts .names = omega arith in
-    c .find-found .ensures ∙ ap (λ (k : ℕ). before (c .args .tag .name .now) (texts (take k (c .args .names .now)))) whole
+    c .find-name-found .ensures ∙ ap (λ (k : ℕ). before (c .args .tag .name .now) (texts (take k (c .args .names .now)))) whole
 
 hindered : (c : After-hindrance) → c .hindrance .result ≡ hindrance (room (length (c .args .nodes .now)) (length (c .args .names .now))) (length (items (c .args .opened .now))) (c .args .counts .nodes) (c .args .counts .names) (length (c .args .tag .name .now)) (before (c .args .tag .name .now) (known (c .args .counts .names) (c .args .names .now)))
 hindered c = c .hindrance .ensures ∙ (λ i. hindrance (c .room .ensures i) (c .len-depth .ensures i) (c .args .counts .nodes) (c .args .counts .names) (length (c .args .tag .name .now)) (found c i))
 
-low : (c : After-hindrance) → c .find-found .result ≤ 512
+low : (c : After-hindrance) → c .find-name-found .result ≤ 512
 low c = omega (arith, found c, before-le (c .args .tag .name .now) (known (c .args .counts .names) (c .args .names .now)), known-length (c .args .counts .names) (c .args .names .now) (omega arith))
 
 unhindered : (c : After-hindrance) → c .hindrance .result ≡ None → Free (room (length (c .args .nodes .now)) (length (c .args .names .now))) (length (items (c .args .opened .now))) (c .args .counts .nodes) (c .args .counts .names) (length (c .args .tag .name .now)) (before (c .args .tag .name .now) (known (c .args .counts .names) (c .args .names .now)))
@@ -39,6 +39,7 @@ returns-in-Some c =
       nodes = refl;
       names = refl;
       within = tt;
+      findable = tt;
     }
 
 pub cast-nodes : need.cast-nodes
@@ -60,5 +61,6 @@ returns c =
           ∙ enter-is m (c .args .tag .place) (items (c .args .opened .now)) (c .args .nodes .now) (c .args .names .now) (c .args .counts) (c .args .tag .name .now) (omega arith) (omega arith) None (sym (c .in-rest .is) ∙ hindered h);
       nodes = drop-set-lt (c .args .counts .nodes + 1) (c .args .nodes .now) (c .args .counts .nodes) _ (omega arith);
       names = told .rest;
-      within = record { within = record { nodes = omega (arith, free .nodes); names = ⊎-elim (λ l. omega (arith, told .more l)) (λ l. omega (arith, told .bound, free .names (omega (arith, found h)))) (cases-lt (c .find-found .result) (c .args .counts .names)) }; nodes = omega arith; names = told .low };
+      within = record { within = record { nodes = omega (arith, free .nodes); names = ⊎-elim (λ l. omega (arith, told .more l)) (λ l. omega (arith, told .bound, free .names (omega (arith, found h)))) (cases-lt (c .find-name-found .result) (c .args .counts .names)) }; nodes = omega arith; names = told .low };
+      findable = told .findable;
     }

@@ -24,6 +24,7 @@ returns-then-not-passes c = record {
   nodes = refl;
   names = refl;
   within = tt;
+  findable = tt;
   depth = c .pre .depth;
 }
 
@@ -35,6 +36,7 @@ returns-else-not-passes c = record {
   nodes = refl;
   names = refl;
   within = record { within = c .pre .within; nodes = omega arith; names = omega arith };
+  findable = c .pre .findable;
   depth = c .pre .depth;
 }
 
@@ -51,5 +53,6 @@ returns-in-Continue-more c =
       nodes = told .nodes;
       names = told .names;
       within = told .within;
+      findable = told .findable;
       depth = pushed .1 ∙ c .pre .depth;
     }

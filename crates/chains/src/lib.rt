@@ -1,0 +1,2 @@
+// Finding places by a key.
+pub mod chain;
