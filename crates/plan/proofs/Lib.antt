@@ -10,4 +10,5 @@ pub mod Accepts
 pub mod Trees
 pub mod Listed
 pub mod Tagged
+pub mod Sources
 pub mod Planned

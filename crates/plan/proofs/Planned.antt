@@ -18,9 +18,12 @@ use Rattle.plan.specs.Trees.{Plan, Planned}
 use Rattle.plan.proofs.Trees.{derived-tree}
 use Rattle.plan.proofs.Listed.{derived-names}
 use Rattle.plan.proofs.Tagged.{derived-places}
+use Rattle.plan.proofs.Sources.{derived-sources}
 
 derived-plan : (n k : ℕ) (text : List ℕ) (c : Counts) (ns : List Slot) (ms : List (List ℕ)) → Derived (room n k) text c ns ms → Plan text ns ms
-derived-plan n k text c ns ms d = record { tree = derived-tree n k text c ns ms d; names = derived-names n k text c ns ms d; places = derived-places (room n k) text c ns ms d }
+derived-plan n k text c ns ms d =
+    let places = derived-places (room n k) text c ns ms d in
+    record { tree = derived-tree n k text c ns ms d; names = derived-names n k text c ns ms d; places = places; sources = derived-sources (room n k) text c ns ms d places }
 
 pub planned : (n k : ℕ) (text : List ℕ) (r : Result Counts PlanFault) (ns ns′ : List Slot) (ms ms′ : List (RefT (List ℕ))) → Judged (room n k) text r → Read (outcome (room n k) text) r ns ns′ ms ms′ → Planned text r ns′ ms′
 planned n k text (Err e) ns ns′ ms ms′ d h = tt
