@@ -1,6 +1,6 @@
 -- What a turn of the reading loop keeps.
 use mathlib.Core.Path.{_≡_, refl, sym, ap, subst, _∙_}
-use mathlib.Core.List.{List, []}
+use mathlib.Core.List.{List, [], map}
 use Prim.Native.Nat.{ℕ, _+_, _-_, _≤_, _<_}
 use native.Mathlib.Omega.{arith}
 use lib.ListN.{length, take, drop, length-map}
@@ -9,6 +9,7 @@ use Rattle.std.specs.declared.option.Option.the-variants.{Some, None}
 use Rattle.std.specs.declared.result.Result.{Result}
 use Rattle.std.specs.declared.result.Result.the-variants.{Ok, Err}
 use Rattle.std.proofs.shelf.Lists.{map-id, length-take-le, drop-drop}
+use Rattle.tags.specs.declared.token.Tag.{Tag}
 use Rattle.tree.specs.declared.slot.Slot.{Slot}
 use Rattle.plan.specs.declared.counts.Counts.{Counts}
 use Rattle.plan.specs.declared.counts.Room.{Room}
@@ -17,16 +18,15 @@ use Rattle.tags.specs.declared.reader.Reader.{Reader}
 use Rattle.plan.specs.declared.fault.PlanFault.{PlanFault}
 use Rattle.tags.specs.Pieces.{Piece, first, pieces, next-piece}
 use Rattle.plan.specs.Plans.{Seen, nothing, step, finish-at, finish, run, outcome}
-use Rattle.plan.specs.Reads.{known, seen-of, Read, Within, Beyond}
+use Rattle.plan.specs.Reads.{name-of, known, seen-of, Read, Within, Beyond}
 use Rattle.tags.specs.Readers.{ahead}
 use Rattle.tree.specs.Stacks.{items, lent}
 use Rattle.plan.proofs.Known.{known-length}
-use Rattle.names.specs.Lists.{texts}
 use Rattle.tags.proofs.Firsts.{first-shorter}
 use Rattle.tags.proofs.Places.{placed-some, placed-none}
 use Rattle.plan.proofs.Outcomes.{run-end, run-more, run-refused, outcome-is}
 
-pub record Sofar (m : Room) (text : List ℕ) (ns : List Slot) (ms : List (RefT (List ℕ))) (opened : Stack (RefT (List ℕ))) (reader : Reader) (ns′ : List Slot) (ms′ : List (RefT (List ℕ))) (counts : Counts) : Type 0 where
+pub record Sofar (m : Room) (text : List ℕ) (ns : List Slot) (ms : List (RefT (List ℕ))) (opened : Stack Tag) (reader : Reader) (ns′ : List Slot) (ms′ : List (RefT (List ℕ))) (counts : Counts) : Type 0 where
   pub more : ℕ
   pub enough : length (ahead reader) ≤ more
   pub left : run m (length text) (seen-of (items opened) ns′ ms′ counts) (pieces more (length text) (ahead reader)) ≡ outcome m text
@@ -37,7 +37,7 @@ pub record Sofar (m : Room) (text : List ℕ) (ns : List Slot) (ms : List (RefT 
   pub depth : length (lent opened) ≡ 64
 
 -- slots that hold what was seen, and otherwise what they held, are filled with it
-pub read-is : (m : Room) (o : Result Counts PlanFault × Seen) (r : Result Counts PlanFault) (os : List (RefT (List ℕ))) (ns ns′ : List Slot) (ms ms′ : List (RefT (List ℕ))) (c : Counts) → (r, seen-of os ns′ ms′ c) ≡ o → c .nodes ≤ length ns′ → c .names ≤ length ms′ → drop (c .nodes) ns′ ≡ drop (c .nodes) ns → drop (c .names) ms′ ≡ drop (c .names) ms → Read o r ns ns′ ms ms′
+pub read-is : (m : Room) (o : Result Counts PlanFault × Seen) (r : Result Counts PlanFault) (os : List Tag) (ns ns′ : List Slot) (ms ms′ : List (RefT (List ℕ))) (c : Counts) → (r, seen-of os ns′ ms′ c) ≡ o → c .nodes ≤ length ns′ → c .names ≤ length ms′ → drop (c .nodes) ns′ ≡ drop (c .nodes) ns → drop (c .names) ms′ ≡ drop (c .names) ms → Read o r ns ns′ ms ms′
 read-is m o r os ns ns′ ms ms′ c e a b p q = subst (λ (z : Result Counts PlanFault × Seen). Read z r ns ns′ ms ms′) e (record {
   answer = refl;
   nodes = record {
@@ -56,12 +56,12 @@ read-is m o r os ns ns′ ms ms′ c e a b p q = subst (λ (z : Result Counts Pl
     k2 : length (known (c .names) ms′) ≡ c .names
     k2 = known-length (c .names) ms′ b
 
-pub begun : (m : Room) (text : List ℕ) (ns : List Slot) (ms : List (RefT (List ℕ))) (opened : Stack (RefT (List ℕ))) (reader : Reader) → length text ≤ 65536 → length (lent opened) ≡ 64 → items opened ≡ [] → ahead reader ≡ text → reader .text .now ≡ text → Sofar m text ns ms opened reader ns ms (record { nodes = 0; names = 0 })
+pub begun : (m : Room) (text : List ℕ) (ns : List Slot) (ms : List (RefT (List ℕ))) (opened : Stack Tag) (reader : Reader) → length text ≤ 65536 → length (lent opened) ≡ 64 → items opened ≡ [] → ahead reader ≡ text → reader .text .now ≡ text → Sofar m text ns ms opened reader ns ms (record { nodes = 0; names = 0 })
 begun m text ns ms opened reader short deep none all same = record {
   more = length text;
   enough = omega (arith, ap length all);
   left =
-      ap (λ (os : List (RefT (List ℕ))). run m (length text) (seen-of os ns ms (record { nodes = 0; names = 0 })) (pieces (length text) (length text) (ahead reader))) none
+      ap (λ (os : List Tag). run m (length text) (seen-of os ns ms (record { nodes = 0; names = 0 })) (pieces (length text) (length text) (ahead reader))) none
       ∙ ap (λ (s : List ℕ). run m (length text) nothing (pieces (length text) (length text) s)) all
       ∙ outcome-is m text short;
   within = record { nodes = omega arith; names = omega arith };
@@ -76,11 +76,11 @@ drop-beyond xs ys a b h e =
     let k : a + (b - a) ≡ b = omega arith in
     sym (drop-drop (b - a) a xs ∙ ap (λ (i : ℕ). drop i xs) k) ∙ ap (drop (b - a)) e ∙ drop-drop (b - a) a ys ∙ ap (λ (i : ℕ). drop i ys) k
 
-module _ (m : Room) (text : List ℕ) (ns : List Slot) (ms : List (RefT (List ℕ))) (opened : Stack (RefT (List ℕ))) (reader : Reader) (ns′ : List Slot) (ms′ : List (RefT (List ℕ))) (counts : Counts) (h : Sofar m text ns ms opened reader ns′ ms′ counts) (nodes : counts .nodes ≤ length ns′) (names : counts .names ≤ length ms′) where
+module _ (m : Room) (text : List ℕ) (ns : List Slot) (ms : List (RefT (List ℕ))) (opened : Stack Tag) (reader : Reader) (ns′ : List Slot) (ms′ : List (RefT (List ℕ))) (counts : Counts) (h : Sofar m text ns ms opened reader ns′ ms′ counts) (nodes : counts .nodes ≤ length ns′) (names : counts .names ≤ length ms′) where
   -- the text ends here
   pub ended : (r : Result Counts PlanFault) (d : ℕ) → d ≡ length (items opened) → None ≡ next-piece (length (reader .text .now)) (ahead reader) → r ≡ finish-at (length text) d counts → Read (outcome m text) r ns ns′ ms ms′
   ended r d e last said =
-      let a : d ≡ length (texts (items opened)) = e ∙ sym (length-map (items opened) now) in
+      let a : d ≡ length (map name-of (items opened)) = e ∙ sym (length-map (items opened) name-of) in
       let k1 : counts .nodes ≡ length (take (counts .nodes) ns′) = sym (length-take-le (counts .nodes) ns′ nodes) in
       let k2 : counts .names ≡ length (known (counts .names) ms′) = sym (known-length (counts .names) ms′ names) in
       let r-is : r ≡ finish (length text) (seen-of (items opened) ns′ ms′ counts) = said ∙ (λ i. finish-at (length text) (a i) (record { nodes = k1 i; names = k2 i })) in
@@ -115,7 +115,7 @@ module _ (m : Room) (text : List ℕ) (ns : List Slot) (ms : List (RefT (List �
         nodes names (h .nodes) (h .names)
 
     -- the piece is taken
-    pub one-more : (opened″ : Stack (RefT (List ℕ))) (ns″ : List Slot) (ms″ : List (RefT (List ℕ))) (d : Counts) → Ok (seen-of (items opened″) ns″ ms″ d) ≡ step m p (seen-of (items opened) ns′ ms′ counts) piece → Beyond m counts d → drop (d .nodes) ns″ ≡ drop (d .nodes) ns′ → drop (d .names) ms″ ≡ drop (d .names) ms′ → reader′ .text ≡ reader .text → length (lent opened″) ≡ 64 → Sofar m text ns ms opened″ reader′ ns″ ms″ d
+    pub one-more : (opened″ : Stack Tag) (ns″ : List Slot) (ms″ : List (RefT (List ℕ))) (d : Counts) → Ok (seen-of (items opened″) ns″ ms″ d) ≡ step m p (seen-of (items opened) ns′ ms′ counts) piece → Beyond m counts d → drop (d .nodes) ns″ ≡ drop (d .nodes) ns′ → drop (d .names) ms″ ≡ drop (d .names) ms′ → reader′ .text ≡ reader .text → length (lent opened″) ≡ 64 → Sofar m text ns ms opened″ reader′ ns″ ms″ d
     one-more opened″ ns″ ms″ d e far kn km same deep =
         let k = run-more m (length text) (seen-of (items opened) ns′ ms′ counts) (ahead reader) piece (ahead reader′) is-first (h .more) (seen-of (items opened″) ns″ ms″ d) (h .enough) (at-place (Ok (seen-of (items opened″) ns″ ms″ d)) e) in
         record {

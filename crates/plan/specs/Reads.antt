@@ -1,7 +1,7 @@
 -- What the slots hold while a plan text is read, and afterwards.
 --     room-in ns ms         how many nodes and names there is room for in the slots ns and ms
 --     known k ms            the names in the first k slots
---     seen-of os ns ms c    what was seen, from the open names, the slots and the counts
+--     seen-of os ns ms c    what was seen, from the open tags, the slots and the counts
 --     taken r os ns ms      the same behind a result
 --     Filled f done was is  the slots were `was` and are `is`: the first ones hold `done`, all others what they held
 --     Reading text r ns ns′ ms ms′   reading the text answers r as its outcome says, and fills the slots with what was read
@@ -14,6 +14,7 @@ use Rattle.std.specs.shelf.Text.{sameBytes}
 use denote.Ref.{RefT, now}
 use Rattle.std.specs.declared.result.Result.{Result}
 use Rattle.std.specs.declared.result.Result.the-variants.{Ok, Err}
+use Rattle.tags.specs.declared.token.Tag.{Tag}
 use Rattle.tree.specs.declared.slot.Slot.{Slot}
 use Rattle.plan.specs.declared.counts.Counts.{Counts}
 use Rattle.plan.specs.declared.counts.Room.{Room}
@@ -29,10 +30,13 @@ room-in ns ms = room (length ns) (length ms)
 abbrev pub known : ℕ → List (RefT (List ℕ)) → List (List ℕ)
 known k ms = texts (take k ms)
 
-abbrev pub seen-of : List (RefT (List ℕ)) → List Slot → List (RefT (List ℕ)) → Counts → Seen
-seen-of os ns ms c = record { opened = texts os; nodes = take (c .nodes) ns; names = known (c .names) ms }
+abbrev pub name-of : Tag → List ℕ
+name-of t = now (t .name)
 
-abbrev pub taken : Result Counts PlanFault → List (RefT (List ℕ)) → List Slot → List (RefT (List ℕ)) → Result Seen PlanFault
+abbrev pub seen-of : List Tag → List Slot → List (RefT (List ℕ)) → Counts → Seen
+seen-of os ns ms c = record { opened = map name-of os; nodes = take (c .nodes) ns; names = known (c .names) ms }
+
+abbrev pub taken : Result Counts PlanFault → List Tag → List Slot → List (RefT (List ℕ)) → Result Seen PlanFault
 taken (Ok c) os ns ms = Ok (seen-of os ns ms c)
 taken (Err e) os ns ms = Err e
 
@@ -65,10 +69,10 @@ abbrev pub Left : Room → Counts → Result Counts PlanFault → Type 0
 Left m c (Ok d) = Beyond m c d
 Left m c (Err e) = Unit {0}
 
--- the innermost open name is n exactly if r, and is then left
-abbrev pub LeftOpen : List (RefT (List ℕ)) → List ℕ → Bool → List (RefT (List ℕ)) → Type 0
+-- the innermost open tag has the name n exactly if r, and is then left
+abbrev pub LeftOpen : List Tag → List ℕ → Bool → List Tag → Type 0
 LeftOpen [] n r ys = r ≡ false
-LeftOpen (x ∷ xs) n r ys = (r ≡ sameBytes (now x) n) × (ys ≡ xs)
+LeftOpen (x ∷ xs) n r ys = (r ≡ sameBytes (name-of x) n) × (ys ≡ xs)
 
 -- a reading answers r as the outcome o says, and fills the slots with the nodes and names of o
 pub record Read (o : Result Counts PlanFault × Seen) (r : Result Counts PlanFault) (ns ns′ : List Slot) (ms ms′ : List (RefT (List ℕ))) : Type 0 where

@@ -104,10 +104,10 @@ fn add_name<'a>(
     count + 1
 }
 
-// Adds the node of a start or empty tag, or refuses it. `opened` are the names of the open tags.
+// Adds the node of a start or empty tag, or refuses it. `opened` are the open tags.
 fn enter<'a>(
     tag: Tag<'a>,
-    opened: &Stack<'_, &'a [u8]>,
+    opened: &Stack<'_, Tag<'a>>,
     counts: Counts,
     nodes: &mut [Slot],
     names: &mut [&'a [u8]],
@@ -140,12 +140,12 @@ fn enter<'a>(
 }
 
 // Closes the innermost open tag, and tells whether that has this name.
-fn leave(opened: &mut Stack<'_, &[u8]>, name: &[u8]) -> bool
+fn leave(opened: &mut Stack<'_, Tag<'_>>, name: &[u8]) -> bool
     ensures left { λ r. ⌜ LeftOpen (items (now (opened .entry))) (now (name .entry)) r (items (now (opened .exit))) ⌝ }
     ensures slots { λ _. ⌜ lent (now (opened .exit)) ≡ lent (now (opened .entry)) ⌝ }
 {
     match opened.pop() {
-        Some(top) => top == name,
+        Some(top) => top.name == name,
         None => false,
     }
 }
@@ -159,7 +159,7 @@ fn passes(depth: usize, b: u8) -> bool
 
 fn take_piece<'a>(
     piece: Piece<'a>,
-    opened: &mut Stack<'_, &'a [u8]>,
+    opened: &mut Stack<'_, Tag<'a>>,
     counts: Counts,
     nodes: &mut [Slot],
     names: &mut [&'a [u8]],
@@ -185,7 +185,7 @@ fn take_piece<'a>(
         }
         Piece::Tag(Token::Start(tag)) => {
             let more = enter(tag, opened, counts, nodes, names, chain)?;
-            let _ = opened.push(tag.name);
+            let _ = opened.push(tag);
             Ok(more)
         }
         Piece::Tag(Token::Empty(tag)) => enter(tag, opened, counts, nodes, names, chain),
@@ -213,7 +213,7 @@ fn finish(depth: usize, counts: Counts, place: usize) -> Result<Counts, PlanFaul
 
 fn read_pieces<'a>(
     text: &'a [u8],
-    opened: &mut Stack<'_, &'a [u8]>,
+    opened: &mut Stack<'_, Tag<'a>>,
     nodes: &mut [Slot],
     names: &mut [&'a [u8]],
 ) -> Result<Counts, PlanFault>
@@ -244,7 +244,11 @@ pub fn read<'a>(
     if text.len() > MOST_BYTES {
         return Err(refused(Rule::TooLong, 0));
     }
-    let mut slots = [&text[0..0]; MOST_DEPTH];
+    let none = Tag {
+        name: &text[0..0],
+        place: 0,
+    };
+    let mut slots = [none; MOST_DEPTH];
     let mut opened = Stack::new(&mut slots);
     read_pieces(text, &mut opened, nodes, names)
 }

@@ -3,7 +3,6 @@ use native.Mathlib.Omega.{arith}
 use borrow.Author.Needs.{needs}
 use Prim.Native.Nat.{_<_}
 use lib.ListN.{length, length-map}
-use denote.Ref.{now}
 use Rattle.std.specs.declared.result.Result.the-variants.{Err}
 use Rattle.tags.specs.declared.token.Piece as declared
 use Rattle.tags.specs.declared.token.Piece.the-variants.{Tag}
@@ -11,7 +10,7 @@ use Rattle.tags.specs.declared.token.Token.the-variants.{Start}
 use Rattle.tags.specs.Readers.{piece-of, piece-place}
 use Rattle.tree.specs.Stacks.{items}
 use Rattle.plan.specs.Plans.{room, step}
-use Rattle.plan.specs.Reads.{seen-of}
+use Rattle.plan.specs.Reads.{name-of, seen-of}
 use Rattle.plan.proofs.Steps.{pass-yes, pass-no, enter-ok, pushed-open, opened-is}
 use Rattle.plan.proofs.read.take_piece.Needs as need
 
@@ -44,11 +43,11 @@ pub returns-in-Continue-more : need.returns-in-Continue-more
 returns-in-Continue-more c =
     let told = c .in-Continue-more .ensures tt in
     let is : c .args .piece ≡ Tag (Start (c .in-Tag-Start .tag)) = search needs in
-    let deep : length (items (c .args .opened .now)) < 64 = omega (arith, enter-ok _ (c .in-Tag-Start .tag .place) (seen-of (items (c .args .opened .now)) (c .args .nodes .now) (c .args .names .now) (c .args .counts)) _ (c .in-Tag-Start .tag .name .now) (told .taken), length-map (items (c .args .opened .now)) now) in
-    let pushed = pushed-open (c .args .opened .now) (c .push .last .self) (c .in-Tag-Start .tag .name) (c .push .result) (c .push .ensures) (omega arith) in
+    let deep : length (items (c .args .opened .now)) < 64 = omega (arith, enter-ok _ (c .in-Tag-Start .tag .place) (seen-of (items (c .args .opened .now)) (c .args .nodes .now) (c .args .names .now) (c .args .counts)) _ (c .in-Tag-Start .tag .name .now) (told .taken), length-map (items (c .args .opened .now)) name-of) in
+    let pushed = pushed-open (c .args .opened .now) (c .push .last .self) (c .in-Tag-Start .tag) (c .push .result) (c .push .ensures) (omega arith) in
     record {
       taken =
-          opened-is _ (c .in-Tag-Start .tag .place) (seen-of (items (c .args .opened .now)) (c .args .nodes .now) (c .args .names .now) (c .args .counts)) (items (c .args .opened .now)) (items (c .push .last .self)) (c .in-Tag-Start .tag .name) (c .enter .last .nodes) (c .enter .last .names) (c .in-Continue-more .more) (told .taken) (pushed .0)
+          opened-is _ (c .in-Tag-Start .tag .place) (seen-of (items (c .args .opened .now)) (c .args .nodes .now) (c .args .names .now) (c .args .counts)) (items (c .args .opened .now)) (items (c .push .last .self)) (c .in-Tag-Start .tag) (c .enter .last .nodes) (c .enter .last .names) (c .in-Continue-more .more) (told .taken) (pushed .0)
           ∙ ap (λ (p : declared.Piece). step (room (length (c .args .nodes .now)) (length (c .args .names .now))) (piece-place p) (seen-of (items (c .args .opened .now)) (c .args .nodes .now) (c .args .names .now) (c .args .counts)) (piece-of p)) (sym is);
       nodes = told .nodes;
       names = told .names;
