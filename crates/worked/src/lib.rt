@@ -15,8 +15,14 @@ mod tests {
     use std::alloc::AllocError;
     use std::alloc::Global;
     use std::test::*;
+    use tree::fault::TableFault;
+    use tree::fault::TableFaultDebug;
+    use tree::fault::TableFaultPartialEq;
     use tree::refusal::Refusal;
     use tree::slot::Slot;
+    use tree::table::Table;
+    use tree::table::methods::TableTree;
+    use tree::trees::Tree;
 
     static PLAN: &[u8] =
         b"<PLAN><MON><LESSON/><DRAFT><LESSON/></DRAFT></MON><TUE><LESSON/></TUE></PLAN>";
@@ -61,6 +67,34 @@ mod tests {
         Ok(text)
     }
 
+    // A root with as many empty tags in it, each with a name of its own.
+    fn with_names(heap: Global, count: usize) -> Result<Vec<u8>, AllocError> {
+        let mut text = repeated(heap, b"<R>", 1)?;
+        for number in 0..count {
+            text.extend_from_slice(format!(heap, "<N{number}/>")?.as_bytes())?;
+        }
+        text.extend_from_slice(b"</R>")?;
+        Ok(text)
+    }
+
+    // A root with as many empty tags in it.
+    fn with_nodes(heap: Global, count: usize) -> Result<Vec<u8>, AllocError> {
+        let mut text = repeated(heap, b"<R>", 1)?;
+        text.extend_from_slice(repeated(heap, b"<A/>", count)?.as_slice())?;
+        text.extend_from_slice(b"</R>")?;
+        Ok(text)
+    }
+
+    // The same as `outcome`, with more slots than are ever used.
+    fn outcome_at_large(heap: Global, text: &[u8]) -> Result<(u32, u32, bool), AllocError> {
+        let mut nodes = vec![in heap; EMPTY; 5000]?;
+        let mut names = vec![in heap; text; 600]?;
+        match read(text, nodes.as_mut_slice(), names.as_mut_slice()) {
+            Ok(Counts { nodes, names }) => Ok((nodes as u32, names as u32, true)),
+            Err(fault) => Ok((fault.number() as u32, fault.place(), false)),
+        }
+    }
+
     #[test]
     fn plans_are_read_or_refused() -> Result<(), Fail> {
         check_eq(outcome(b"<A/>"), (1, 1, true))?;
@@ -88,6 +122,40 @@ mod tests {
             outcome(repeated(heap, b" ", 65537)?.as_slice()),
             (1, 0, false),
         )
+    }
+
+    #[test]
+    fn plans_that_are_full(rt: LibcRuntime) -> Result<(), Fail> {
+        let heap = rt.alloc();
+        let most = outcome_at_large(heap, with_nodes(heap, 4095)?.as_slice())?;
+        check_eq(most, (4096, 2, true))?;
+        let more = outcome_at_large(heap, with_nodes(heap, 4096)?.as_slice())?;
+        check_eq(more, (8, 16383, false))?;
+        let most = outcome_at_large(heap, with_names(heap, 511)?.as_slice())?;
+        check_eq(most, (512, 512, true))?;
+        let more = outcome_at_large(heap, with_names(heap, 512)?.as_slice())?;
+        check_eq(more, (9, 3470, false))
+    }
+
+    #[test]
+    fn a_table_refuses_slots_that_are_no_tree() -> Result<(), Fail> {
+        let root = Slot {
+            label: 1,
+            depth: 1,
+            place: 0,
+        };
+        let deep = Slot {
+            label: 2,
+            depth: 3,
+            place: 3,
+        };
+        let slots = [root, deep];
+        let mut table = Table::new();
+        check(table.set(&slots[0..1]).is_ok())?;
+        check_eq(table.set(&slots), Err(TableFault::NoTree(2)))?;
+        check_eq(table.set(&slots[1..2]), Err(TableFault::NoTree(1)))?;
+        check_eq(table.set(&slots[0..0]), Err(TableFault::NoTree(0)))?;
+        check_eq((table.count(), table.label(1), table.label(2)), (1, 1, 0))
     }
 
     // Whether the worked plan answers a question with this line.
