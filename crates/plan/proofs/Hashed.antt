@@ -14,6 +14,8 @@ use Rattle.names.specs.Lists.{before}
 use Rattle.names.proofs.Finds.{before-le}
 use Rattle.names.proofs.Names.{before-is, before-first}
 use Rattle.plan.specs.Hashes.{hash-of, Distinct, Findable}
+use Rattle.plan.specs.Plans.{with-name}
+use Rattle.plan.proofs.Held.{with-new}
 
 -- a name that is not among distinct names makes one more of them
 pub distinct-new : (n : List ℕ) (ms : List (List ℕ)) → length ms ≤ before n ms → Distinct ms → Distinct (ms ++ n ∷ [])
@@ -66,14 +68,15 @@ module _ (ms : List (List ℕ)) (l : Links) (n : List ℕ) (h : Findable ms l) w
         (cases-lt (before n ms) (length ms))
 
   -- a new name is hooked in the next place
-  pub findable-more : (at key : ℕ) → length ms ≤ before n ms → at ≡ length ms → at < 512 → key ≡ hash-of n → key < 1024 → length (l .heads) ≡ 1024 → length (l .nexts) ≡ 512 → Findable (ms ++ n ∷ []) (hooked l at key)
+  pub findable-more : (at key : ℕ) → length ms ≤ before n ms → at ≡ length ms → at < 512 → key ≡ hash-of n → key < 1024 → length (l .heads) ≡ 1024 → length (l .nexts) ≡ 512 → Findable (with-name n ms) (hooked l at key)
   findable-more at key new here few is low heads nexts =
       let long = length-map ms hash-of in
       let place : at ≡ length (map hash-of ms) = omega arith in
-      record {
+      let keys : map hash-of ms ++ key ∷ [] ≡ map hash-of (ms ++ n ∷ []) = ap (λ (x : ℕ). map hash-of ms ++ x ∷ []) is ∙ sym (map-push hash-of ms n) in
+      let more = chained-more (map hash-of ms) l key (h .chained) (omega arith) (omega arith) (omega arith) in
+      subst (λ (ns : List (List ℕ)). Findable ns (hooked l at key)) (sym (with-new n ms new)) (record {
         distinct = distinct-new n ms new (h .distinct);
         chained =
             subst (λ (x : ℕ). Chained (map hash-of (ms ++ n ∷ [])) (hooked l x key)) (sym place)
-            (subst (λ (ks : List ℕ). Chained ks (hooked l (length (map hash-of ms)) key)) (ap (λ (x : ℕ). map hash-of ms ++ x ∷ []) is ∙ sym (map-push hash-of ms n))
-            (chained-more (map hash-of ms) l key (h .chained) (omega arith) (omega arith) (omega arith)));
-      }
+            (subst (λ (ks : List ℕ). Chained ks (hooked l (length (map hash-of ms)) key)) keys more);
+      })

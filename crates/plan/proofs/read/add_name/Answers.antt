@@ -1,15 +1,14 @@
-use mathlib.Core.Path.{_≡_, refl, sym, subst, _∙_}
-use mathlib.Core.List.{List, [], _∷_, _++_}
+use mathlib.Core.Path.{_≡_, refl, sym, subst}
+use mathlib.Core.List.{List}
 use native.Mathlib.Omega.{arith}
-use Prim.Native.Nat.{ℕ, _+_, _≤_}
+use Prim.Native.Nat.{ℕ, _+_}
 use lib.ListN.{length}
 use Rattle.std.proofs.shelf.Lists.{drop-set-lt}
 use Rattle.chains.specs.Chains.{links}
-use Rattle.names.specs.Lists.{before}
 use Rattle.plan.specs.Hashes.{Findable}
+use Rattle.plan.specs.Plans.{with-name}
 use Rattle.plan.specs.Reads.{known}
 use Rattle.plan.proofs.Known.{known-length, found-le, known-before, known-new}
-use Rattle.plan.proofs.Held.{with-new}
 use Rattle.plan.proofs.Hashed.{findable-more}
 use Rattle.plan.proofs.read.add_name.Needs as need
 
@@ -35,15 +34,13 @@ returns c =
     let room = c .pre .fits (omega arith) in
     let ms = known (c .args .count) (c .args .names .now) in
     let long : length ms ≡ c .args .count = known-length (c .args .count) (c .args .names .now) (c .pre .within) in
-    let new : length ms ≤ before (c .args .name .now) ms = omega (arith, c .pre .found, c .if-found-count .left) in
+    let named = known-new (c .args .names .now) (c .args .count) (c .args .found) (c .args .name) (c .pre .within) (c .pre .found) (c .if-found-count .left) (room .0) in
+    let more = findable-more ms (links (c .args .chain .now)) (c .args .name .now) (c .pre .findable) (c .args .count) (c .hash-key .result) (omega (arith, c .pre .found)) (sym long) (room .1) (c .hash-key .ensures .value) (c .hash-key .ensures .bound) (c .args .chain .now .keys) (c .args .chain .now .places) in
     record {
-      names = known-new (c .args .names .now) (c .args .count) (c .args .found) (c .args .name) (c .pre .within) (c .pre .found) (c .if-found-count .left) (room .0);
+      names = named;
       rest = drop-set-lt (c .args .count + 1) (c .args .names .now) (c .args .found) (c .args .name) (omega arith);
       bound = omega arith;
       low = omega arith;
       more = λ h. absurd (omega arith);
-      findable =
-          subst (λ (ms : List (List ℕ)). Findable ms (links (c .hook .last .self))) (sym (known-new (c .args .names .now) (c .args .count) (c .args .found) (c .args .name) (c .pre .within) (c .pre .found) (c .if-found-count .left) (room .0) ∙ with-new (c .args .name .now) ms new))
-          (subst (Findable (ms ++ c .args .name .now ∷ [])) (sym (c .hook .ensures))
-          (findable-more ms (links (c .args .chain .now)) (c .args .name .now) (c .pre .findable) (c .args .count) (c .hash-key .result) new (sym long) (room .1) (c .hash-key .ensures .value) (c .hash-key .ensures .bound) (c .args .chain .now .keys) (c .args .chain .now .places)));
+      findable = subst (λ (ns : List (List ℕ)). Findable ns (links (c .hook .last .self))) (sym named) (subst (Findable (with-name (c .args .name .now) ms)) (sym (c .hook .ensures)) more);
     }
