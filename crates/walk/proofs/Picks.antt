@@ -9,7 +9,7 @@ use Rattle.std.specs.shelf.Lists.{kept-by}
 use Rattle.std.proofs.shelf.Lists.{length-map, length-push, map-push, take-all, drop-more, set-at, append-assoc}
 use Rattle.tree.specs.Nodes.{Node, count, originAt}
 use Rattle.tree.specs.Paths.{numbers, chosen, select, selects}
-use Rattle.tree.proofs.Paths.{kept-yes, kept-no}
+use Rattle.tree.proofs.Paths.{kept-yes, kept-no, length-kept}
 use Rattle.tree.specs.declared.step.Step.{Step}
 use Rattle.walk.specs.Marks.{anyStep, ends}
 use Rattle.std.specs.declared.result.Result.the-variants.{Err}
@@ -71,15 +71,9 @@ sofar-yes ns q before m n out s h =
           ∙ ap (λ (z : List ℕ). z ++ drop (n + 1) before) (sym f);
     }
 
-kept-few : (f : ℕ → Bool) (n b : ℕ) → length (kept-by f (numbers n b)) ≤ n
-kept-few f zero b = omega arith
-kept-few f (suc n) b =
-    let r = kept-few f n (suc b) in
-    elim (f b) as (λ v. length (cond v (b ∷ kept-by f (numbers n (suc b))) (kept-by f (numbers n (suc b)))) ≤ suc n) [ true ↦ omega arith | false ↦ omega arith ]
-
 -- a question selects at most all nodes
 pub origins-few : (ns : List Node) (q : List Step) → 1 ≤ length q → length (origins ns q) ≤ count ns
-origins-few ns q l = omega (arith, length-map (selects ns q) (originAt ns), ap length (picked-all ns q l), kept-few (ends ns q (length q)) (count ns) 1)
+origins-few ns q l = omega (arith, length-map (selects ns q) (originAt ns), ap length (picked-all ns q l), length-kept (ends ns q (length q)) (count ns) 1)
 
 -- with a slot for each node, no question is refused
 pub never-refused : (ns : List Node) (q : List Step) (before : List ℕ) (e : WalkFault) (after : List ℕ) → Question q → count ns ≤ length before → Walked ns q before (Err e) after → ⊥

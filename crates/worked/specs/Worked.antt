@@ -13,6 +13,8 @@ use Rattle.plan.specs.Plans.{outcome, room, Seen}
 use Rattle.plan.specs.Faults.{number, place}
 use Rattle.plan.specs.declared.counts.Counts.{Counts}
 use Rattle.plan.specs.declared.fault.PlanFault.{PlanFault}
+use Rattle.names.specs.Lists.{number-of}
+use Rattle.views.specs.Views.{branch, hide}
 use Rattle.answers.specs.Lines.{answer-line, plan-refused-line}
 
 abbrev pub plan-text : List ℕ
@@ -63,4 +65,6 @@ pub record Worked : Type 0 where
   pub depths : map (λ (n : Node). n .depth) nodes ≡ 1 ∷ 2 ∷ 3 ∷ 3 ∷ 4 ∷ 2 ∷ 3 ∷ []
   pub origins : map (λ (n : Node). n .origin) nodes ≡ 1 ∷ 2 ∷ 3 ∷ 4 ∷ 5 ∷ 6 ∷ 7 ∷ []
   pub answered : All Answers questions
+  pub hidden : answer-line (hide (number-of (codes "DRAFT") names ∷ []) nodes) names (codes "//LESSON") ≡ codes "2 3 7\n"
+  pub branched : answer-line (branch 2 nodes) names (codes "/MON/LESSON") ≡ codes "1 3\n"
   pub refused : All Refuses plans
