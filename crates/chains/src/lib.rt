@@ -1,2 +1,4 @@
 // Finding places by a key.
+#![tactic(auto)]
+
 pub mod chain;

@@ -1,4 +1,6 @@
 // Files that a program reads.
+#![tactic(auto)]
+
 use std::io::ErrorKind;
 use std::{fs, io};
 

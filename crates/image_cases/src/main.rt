@@ -1,5 +1,7 @@
 // Opens many images, right and wrong, and prints what each is: those of standard input, one a line in hexadecimal,
 // then every beginning and every change of one byte of a small image, and images at the limits.
+#![tactic(auto)]
+
 use answers::line::{answer, refused};
 use image::image::Image;
 use image_lines::text::nodes;

@@ -1,4 +1,6 @@
 // Reads a plan text into node slots and name slots.
+#![tactic(auto)]
+
 pub mod counts;
 pub mod fault;
 mod find;

@@ -1,4 +1,6 @@
 // Reads plan texts from standard input, one a line, and prints what reading each answers and what the slots then hold.
+#![tactic(auto)]
+
 ghost use Rattle.std.specs.Prelude.{◌<◌};
 
 use plan::read::read;

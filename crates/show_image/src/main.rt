@@ -1,4 +1,6 @@
 // Turns the plan in `plan.xml` into an image, and prints its bytes and the nodes that are read back from it.
+#![tactic(auto)]
+
 use answers::line::plan_refused;
 use answers::opened::Plan;
 use files::read_or_empty;

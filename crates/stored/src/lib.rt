@@ -1,3 +1,5 @@
 // The format of stored images, and its laws.
+#![tactic(auto)]
+
 pub mod fault;
 pub mod laws;

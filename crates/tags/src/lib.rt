@@ -1,4 +1,6 @@
 // The tags of a text, and a reader that goes through a text piece by piece.
+#![tactic(auto)]
+
 pub mod laws;
 pub mod reader;
 pub mod scan;

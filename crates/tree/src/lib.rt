@@ -1,4 +1,6 @@
 // Trees of labelled nodes, the steps that select among them, the table of node slots, and the bounded stack.
+#![tactic(auto)]
+
 pub mod fault;
 pub mod laws;
 pub mod node;

@@ -1,4 +1,6 @@
 // Questions on views of the worked plan, alone and in piles.
+#![tactic(auto)]
+
 use answers::line::answer;
 use names::list::NameList;
 use std::io;

@@ -1,4 +1,6 @@
 // The walk answers a question from a tree with no index: one pass for the count and one for the nodes.
+#![tactic(auto)]
+
 ghost use Rattle.std.specs.Prelude.{◌≡◌, ℕ, suc, ◌-◌, ◌<◌, ◌≤◌, false, List, ◌++◌, length, drop, slice_index_or, slice_set};
 ghost use Rattle.tree.specs.Nodes.{count as many};
 ghost use Rattle.tree.specs.Paths.{Rises};

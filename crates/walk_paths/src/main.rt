@@ -1,4 +1,6 @@
 // Answers questions on the plan in `plan.xml` by a walk: a question is a line of standard input, and a line is printed for each.
+#![tactic(auto)]
+
 use answers::line::plan_refused;
 use answers::opened::Plan;
 use files::read_or_empty;

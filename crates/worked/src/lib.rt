@@ -1,4 +1,6 @@
 // A plan worked through, by the definitions and by the calls.
+#![tactic(auto)]
+
 ghost use Rattle.worked.specs.Worked.{Worked};
 
 // The theorem that the definitions give the table: without its proof the crate is refused.

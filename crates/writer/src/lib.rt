@@ -1,4 +1,6 @@
 // Writing images, and what opening and writing are to one another.
+#![tactic(auto)]
+
 pub mod laws;
 mod numbering;
 pub mod write;

@@ -4,8 +4,8 @@ use Rattle.names.specs.Words.{after}
 use Rattle.names.proofs.Runs.{after_le, front_is}
 use Rattle.names.proofs.scan.split_name.Goals as goal
 
-pub overflow-sub-result : goal.overflow-sub-result
-overflow-sub-result c = omega (arith, after_le name_byte c.args.text.now, ap length c.past-rest.ensures)
+pub overflow_sub-result : goal.overflow_sub-result
+overflow_sub-result c = omega (arith, after_le name_byte c.args.text.now, ap length c.past-rest.ensures)
 
 pub returns : goal.returns
 returns c =

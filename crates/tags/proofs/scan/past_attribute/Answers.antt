@@ -7,7 +7,7 @@ use Rattle.tags.proofs.scan.past_attribute.Goals as goal
 
 pub returns-in-61 : goal.returns-in-61
 returns-in-61 c =
-    c.past-quoted.ensures
+    c.past_quoted.ensures
     ∙ ap quoted c.past-in-61.ensures
     ∙ sym (valued_yes c.past-2.result.now (omega (arith, ltb-false)) (search rules))
     ∙ ap valued (c.past-2.ensures ∙ ap (after white) c.past.ensures)

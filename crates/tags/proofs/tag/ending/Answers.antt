@@ -9,8 +9,8 @@ use Rattle.tags.proofs.tag.ending.Goals as goal
 pub returns-in-62 : goal.returns-in-62
 returns-in-62 c =
     let s = c.args.text.now in
-    let rest = c.past.ensures ∙ ap (after white) c.split-name.ensures.rest in
+    let rest = c.past.ensures ∙ ap (after white) c.split_name.ensures.rest in
     sym (ap (placed c.args.place)
-    (cond-true (begins name_start s) (ended (front name_byte s) (after white (after name_byte s))) None (sym c.if-not-begins-name.ensures)
-    ∙ sym (ap₂ ended c.split-name.ensures.name rest)
-    ∙ ended_yes c.split-name.result.0.now c.past.result.now (omega (arith, ltb-false)) (search rules)))
+    (cond-true (begins name_start s) (ended (front name_byte s) (after white (after name_byte s))) None (sym c.if-not-begins_name.ensures)
+    ∙ sym (ap₂ ended c.split_name.ensures.name rest)
+    ∙ ended_yes c.split_name.result.0.now c.past.result.now (omega (arith, ltb-false)) (search rules)))

@@ -7,9 +7,9 @@ use Rattle.tags.proofs.tag.opening.Goals as goal
 pub returns : goal.returns
 returns c =
     c.close.ensures
-    ∙ ap (placed c.args.place) (opening_is c.args.text.now c.split-name.result.0.now c.split-name.result.1.now (Some c.in-ok-past-attributes.field-0.now) c.split-name.ensures.name c.split-name.ensures.rest c.in-ok-past-attributes.ensures)
+    ∙ ap (placed c.args.place) (opening_is c.args.text.now c.split_name.result.0.now c.split_name.result.1.now (Some c.in_ok-past_attributes.field-0.now) c.split_name.ensures.name c.split_name.ensures.rest c.in_ok-past_attributes.ensures)
 
-pub returns-in-err-past-attributes : goal.returns-in-err-past-attributes
-returns-in-err-past-attributes c =
-    ap found c.from-residual.ensures
-    ∙ ap (placed c.args.place) (opening_is c.args.text.now c.split-name.result.0.now c.split-name.result.1.now None c.split-name.ensures.name c.split-name.ensures.rest c.in-err-past-attributes.ensures)
+pub returns-in_err-past_attributes : goal.returns-in_err-past_attributes
+returns-in_err-past_attributes c =
+    ap found c.from_residual.ensures
+    ∙ ap (placed c.args.place) (opening_is c.args.text.now c.split_name.result.0.now c.split_name.result.1.now None c.split_name.ensures.name c.split_name.ensures.rest c.in_err-past_attributes.ensures)

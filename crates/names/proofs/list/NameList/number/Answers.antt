@@ -4,14 +4,14 @@ use Rattle.names.specs.Lists.{texts, before, Numbered}
 use Rattle.names.proofs.Names.{list_to, numbered, number_some, number_none}
 use Rattle.names.proofs.list.NameList.number.Goals as goal
 
-pub overflow-cast-result : goal.overflow-cast-result
-overflow-cast-result c =
+pub overflow_cast-result : goal.overflow_cast-result
+overflow_cast-result c =
     let m = (list_to (texts c.args.self.now.names.now) c.args.self.now.good).most in
     let e = length-map c.args.self.now.names.now (λ x. x.now) in
     search rules
 
-pub overflow-add-result : goal.overflow-add-result
-overflow-add-result c =
+pub overflow_add-result : goal.overflow_add-result
+overflow_add-result c =
     let m = (list_to (texts c.args.self.now.names.now) c.args.self.now.good).most in
     let e = length-map c.args.self.now.names.now (λ x. x.now) in
     search rules

@@ -5,16 +5,16 @@ use Rattle.names.specs.Lists.{texts}
 use Rattle.names.proofs.Names.{list_to, list_from, list_apart}
 use Rattle.names.proofs.list.NameList.set.Goals as goal
 
-pub returns-then-names-gt-MOST-NAMES : goal.returns-then-names-gt-MOST-NAMES
-returns-then-names-gt-MOST-NAMES c = (λ l. omega (arith, l.most, length-map c.args.names.now (λ x. x.now)), refl)
+pub returns-then-names-gt-MOST_NAMES : goal.returns-then-names-gt-MOST_NAMES
+returns-then-names-gt-MOST_NAMES c = (λ l. omega (arith, l.most, length-map c.args.names.now (λ x. x.now)), refl)
 
-pub returns-then-not-all-apart : goal.returns-then-not-all-apart
-returns-then-not-all-apart c = (λ l. both_ways _ (sym c.if-not-all-apart.ensures) (list_apart (texts c.args.names.now) l), refl)
+pub returns-then-not-all_apart : goal.returns-then-not-all_apart
+returns-then-not-all_apart c = (λ l. both_ways _ (sym c.if-not-all_apart.ensures) (list_apart (texts c.args.names.now) l), refl)
 
-pub invariant-of-self : goal.invariant-of-self
-invariant-of-self c = (list_from (texts c.args.names.now) (omega (arith, length-map c.args.names.now (λ x. x.now))) (sym c.if-not-all-apart.ensures), tt)
+pub invariant_of-self : goal.invariant_of-self
+invariant_of-self c = record { good = list_from (texts c.args.names.now) (omega (arith, length-map c.args.names.now (λ x. x.now))) (sym c.if-not-all_apart.ensures) }
 
 pub returns : goal.returns
 returns c =
-    let good = list_from (texts c.args.names.now) (omega (arith, length-map c.args.names.now (λ x. x.now))) (sym c.if-not-all-apart.ensures) in
+    let good = list_from (texts c.args.names.now) (omega (arith, length-map c.args.names.now (λ x. x.now))) (sym c.if-not-all_apart.ensures) in
     (list_to (texts c.args.names.now) good, refl)

@@ -9,8 +9,8 @@ returns-in-empty c =
     let none = found_none _ _ moved in
     record { text = refl; moved = moved; grammar = (none, none); named = tt }
 
-pub overflow-sub-self : goal.overflow-sub-self
-overflow-sub-self c = tag_fits c.args.self.now.text.now c.args.self.now.place (omega arith) (omega (arith, ltb-false)) (search rules) (token_place c.in-Some.token) (tag_of c.in-Some.token) c.in-Some.after.now c.in-Some.ensures
+pub overflow_sub-self : goal.overflow_sub-self
+overflow_sub-self c = tag_fits c.args.self.now.text.now c.args.self.now.place (omega arith) (omega (arith, ltb-false)) (search rules) (token_place c.in-Some.token) (tag_of c.in-Some.token) c.in-Some.after.now c.in-Some.ensures
 
 pub returns-in-Some : goal.returns-in-Some
 returns-in-Some c =
