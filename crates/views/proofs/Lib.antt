@@ -5,4 +5,4 @@ pub mod Roots
 pub mod Parts
 pub mod Parents
 pub mod Branches
-pub mod Hides
+pub mod HideLemmas

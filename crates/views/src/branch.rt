@@ -7,10 +7,10 @@ ghost use Rattle.views.specs.Views.{raised as raised_by, branch as branch_at};
 ghost use Rattle.views.specs.Settings.{showing, SetsBranch};
 
 use crate::fault::ViewFault;
+use crate::reads::node_at;
 use crate::row::Row;
 use crate::shown::{Shown, all};
 use tree::node::Node;
-use tree::reads::node_at;
 use tree::trees::Tree;
 
 #[derive(Drop)]

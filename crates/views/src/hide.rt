@@ -8,9 +8,9 @@ ghost use Rattle.views.specs.Views.{hide as hidden};
 ghost use Rattle.views.specs.Settings.{showing, SetsHide};
 
 use crate::fault::ViewFault;
+use crate::reads::node_at;
 use crate::row::Row;
 use crate::shown::{Shown, all};
-use tree::reads::node_at;
 use tree::trees::Tree;
 
 const MOST_LABELS: usize = 8;

@@ -4,5 +4,6 @@
 pub mod branch;
 pub mod fault;
 pub mod hide;
+mod reads;
 mod row;
 mod shown;

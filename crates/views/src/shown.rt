@@ -4,8 +4,8 @@ ghost use Rattle.tree.specs.Nodes.{lawful, node_limit};
 ghost use Rattle.tree.specs.Laws.{lawful_laws};
 ghost use Rattle.views.specs.Rows.{entries};
 
+use crate::reads::node_at;
 use crate::row::Row;
-use tree::reads::node_at;
 use tree::trees::Tree;
 
 #[derive(Drop)]

@@ -10,11 +10,11 @@ returns-then-text-eq0 c =
     let r = wrong_told (listed c.args.names.now) c.args.text.now c.args.steps.now (⊎_elim inl (λ h. inr h.1) c.then-text-eq0.either) in
     record { read = r.0; spelled = r.1 }
 
-pub returns-in-default : goal.returns-in-default
-returns-in-default c =
+pub returns-in_default : goal.returns-in_default
+returns-in_default c =
     let ms = listed c.args.names.now in
     let s = c.loop-rest.rest.now in
-    let none = no_step_told ms s c.in-default.ensures in
+    let none = no_step_told ms s c.in_default.ensures in
     let r = done ms c.min-most.result c.args.text.now c.args.steps.now c.loop-rest.count s c.loop-rest.steps c.loop-rest.invariant (omega arith) (omega arith) c.min-most.ensures no_step (stops_no_step _ s (omega arith) none) _ refl in
     record { read = r.0; spelled = r.1 }
 

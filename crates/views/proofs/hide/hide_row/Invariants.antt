@@ -1,6 +1,6 @@
 use Rattle.std.proofs.Common.{◌-◌, ◌≤◌}
 use Rattle.views.specs.Rows.{entries}
-use Rattle.views.proofs.Hides.{Sofar}
+use Rattle.views.proofs.HideLemmas.{Sofar}
 use Rattle.views.proofs.hide.hide_row.Given as goal
 
 abbrev pub invariant-loop-m : goal.invariant-loop-m

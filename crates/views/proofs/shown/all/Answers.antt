@@ -14,11 +14,11 @@ loop-m-preserved g c =
     let next = take_next ns c.loop-m.m (omega arith) in
     (omega arith, cc)
 
-pub invariant-of-result : goal.invariant-of-result
-invariant-of-result g c =
+pub invariant_of-result : goal.invariant_of-result
+invariant_of-result g c =
     let ns = g.T.Tree.nodes c.args.tree.now in
     let all : entries c.loop-m.row ≡ ns = c.loop-m.invariant.1 ∙ take_all c.loop-m.m ns (omega arith) in
-    (subst (λ (z : List Node). lawful node_limit z ≡ true) (sym all) (laws_lawful node_limit ns (g.T.Tree.keeps c.args.tree.now)), tt)
+    record { tree = subst (λ (z : List Node). lawful node_limit z ≡ true) (sym all) (laws_lawful node_limit ns (g.T.Tree.keeps c.args.tree.now)) }
 
 pub returns : goal.returns
 returns g c = c.loop-m.invariant.1 ∙ take_all c.loop-m.m (g.T.Tree.nodes c.args.tree.now) (omega arith)
