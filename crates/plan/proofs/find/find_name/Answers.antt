@@ -16,17 +16,17 @@ within c = omega (arith, sought_within (texts c.args.names.now) (links c.args.ch
 pub loop-place-init : goal.loop-place-init
 loop-place-init c = subst (Sought (texts c.args.names.now) c.args.name.now) (sym c.first-place.ensures) (sought_first (texts c.args.names.now) (links c.args.chain.now) c.args.name.now c.requires c.hash.result c.hash.ensures.value)
 
-pub overflow-cast-at : goal.overflow-cast-at
-overflow-cast-at c = omega (arith, within c)
+pub overflow_cast-at : goal.overflow_cast-at
+overflow_cast-at c = omega (arith, within c)
 
-pub offset-bounds-names-at : goal.offset-bounds-names-at
-offset-bounds-names-at c = omega (arith, within c)
+pub offset_bounds-names-at : goal.offset_bounds-names-at
+offset_bounds-names-at c = omega (arith, within c)
 
 pub bounds-names-at : goal.bounds-names-at
 bounds-names-at c = omega (arith, within c)
 
-pub overflow-cast-result : goal.overflow-cast-result
-overflow-cast-result c = omega (arith, within (goal.at.overflow-cast-result c).In-loop-place)
+pub overflow_cast-result : goal.overflow_cast-result
+overflow_cast-result c = omega (arith, within (goal.at.overflow_cast-result c).In-loop-place)
 
 pub returns-then-eq : goal.returns-then-eq
 returns-then-eq c =

@@ -18,8 +18,8 @@ returns-then-found-count c = record {
   findable = c.requires.findable;
 }
 
-pub offset-bounds-names-found : goal.offset-bounds-names-found
-offset-bounds-names-found c = omega (arith, c.requires.fits (omega arith), found_le c.args.names.now c.args.count c.args.found c.args.name c.requires.within c.requires.found)
+pub offset_bounds-names-found : goal.offset_bounds-names-found
+offset_bounds-names-found c = omega (arith, c.requires.fits (omega arith), found_le c.args.names.now c.args.count c.args.found c.args.name c.requires.within c.requires.found)
 
 pub bounds-names-found : goal.bounds-names-found
 bounds-names-found c = omega (arith, c.requires.fits (omega arith), found_le c.args.names.now c.args.count c.args.found c.args.name c.requires.within c.requires.found)

@@ -4,11 +4,11 @@ use Rattle.plan.proofs.Accepts.{judged}
 use Rattle.plan.proofs.Planned.{planned}
 use Rattle.plan.proofs.read.read.Goals as goal
 
-pub read-pieces-requires : goal.read-pieces-requires
-read-pieces-requires c = record { short = omega arith; depth = ap length c.new-opened.ensures.slots; closed = c.new-opened.ensures.items }
+pub read_pieces-requires : goal.read_pieces-requires
+read_pieces-requires c = record { short = omega arith; depth = ap length c.new-opened.ensures.slots; closed = c.new-opened.ensures.items }
 
 pub returns : goal.returns
 returns c =
-    let told = c.read-pieces.ensures in
-    let sure = judged (room (length c.args.nodes.now) (length c.args.names.now)) c.args.text.now c.read-pieces.result told.answer in
-    record { judged = sure; read = told; planned = planned (length c.args.nodes.now) (length c.args.names.now) c.args.text.now c.read-pieces.result c.args.nodes.now c.read-pieces.new.nodes c.args.names.now c.read-pieces.new.names sure told }
+    let told = c.read_pieces.ensures in
+    let sure = judged (room (length c.args.nodes.now) (length c.args.names.now)) c.args.text.now c.read_pieces.result told.answer in
+    record { judged = sure; read = told; planned = planned (length c.args.nodes.now) (length c.args.names.now) c.args.text.now c.read_pieces.result c.args.nodes.now c.read_pieces.new.nodes c.args.names.now c.read_pieces.new.names sure told }

@@ -35,15 +35,15 @@ returns-else-not-passes c = record {
   depth = c.requires.depth;
 }
 
-pub returns-in-ok-more : goal.returns-in-ok-more
-returns-in-ok-more c =
-    let told = c.in-ok-more.ensures in
+pub returns-in_ok-more-in-Tag-Start : goal.returns-in_ok-more-in-Tag-Start
+returns-in_ok-more-in-Tag-Start c =
+    let told = c.in_ok-more-in-Tag-Start.ensures in
     let is : c.args.piece ≡ Tag (Start c.in-Tag-Start.tag) = search rules in
     let deep : length (items c.args.opened.now) < 64 = omega (arith, enter_ok _ c.in-Tag-Start.tag.place (seen_of (items c.args.opened.now) c.args.nodes.now c.args.names.now c.args.counts) _ c.in-Tag-Start.tag.name.now told.taken, length-map (items c.args.opened.now) name_of) in
     let pushed = pushed_open c.args.opened.now c.push.new.self c.in-Tag-Start.tag c.push.result c.push.ensures (omega arith) in
     record {
       taken =
-          opened_is _ c.in-Tag-Start.tag.place (seen_of (items c.args.opened.now) c.args.nodes.now c.args.names.now c.args.counts) (items c.args.opened.now) (items c.push.new.self) c.in-Tag-Start.tag c.enter.new.nodes c.enter.new.names c.in-ok-more.more told.taken pushed.0
+          opened_is _ c.in-Tag-Start.tag.place (seen_of (items c.args.opened.now) c.args.nodes.now c.args.names.now c.args.counts) (items c.args.opened.now) (items c.push.new.self) c.in-Tag-Start.tag c.enter.new.nodes c.enter.new.names c.in_ok-more-in-Tag-Start.more told.taken pushed.0
           ∙ ap (λ (p : declared.Piece). step (room (length c.args.nodes.now) (length c.args.names.now)) (piece_place p) (seen_of (items c.args.opened.now) c.args.nodes.now c.args.names.now c.args.counts) (piece_of p)) (sym is);
       nodes = told.nodes;
       names = told.names;
