@@ -10,8 +10,8 @@ use Rattle.answers.proofs.opened.Plan.open.Goals as goal
 
 pub returns : goal.returns
 returns c =
-    let e = c.in-ok-counts.ensures in
-    let k = c.in-ok-counts.counts in
+    let e = c.in_ok-counts.ensures in
+    let k = c.in_ok-counts.counts in
     let ns = c.read.new.nodes in
     let ms = c.read.new.names in
     let nodes : k.nodes ≡ k.nodes - 0 = omega arith in
