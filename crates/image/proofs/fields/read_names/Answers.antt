@@ -5,27 +5,27 @@ use Rattle.stored.specs.Openings.{name_field_at, names_at}
 use Rattle.image.proofs.Fronts.{names_stop, names_next}
 use Rattle.image.proofs.fields.read_names.Goals as goal
 
-pub slice-bounds-split-new-name-end : goal.slice-bounds-split-new-name-end
-slice-bounds-split-new-name-end c = omega arith
+pub slice_bounds-split_new_name-end : goal.slice_bounds-split_new_name-end
+slice_bounds-split_new_name-end c = omega arith
 
-pub shape-of-slots-in-default : goal.shape-of-slots-in-default
-shape-of-slots-in-default c = c.loop-done.invariant.0
+pub shape_of-slots-in_default : goal.shape_of-slots-in_default
+shape_of-slots-in_default c = c.loop-done.invariant.0
 
 pub bounds-slots-done : goal.bounds-slots-done
 bounds-slots-done c = omega arith
 
-pub shape-of-slots : goal.shape-of-slots
-shape-of-slots c = c.loop-done.invariant.0
+pub shape_of-slots : goal.shape_of-slots
+shape_of-slots c = c.loop-done.invariant.0
 
 -- the names that are known are those of the part that is passed
 known_part : {X : Type 0} (f : List (List ℕ) → X) (slots : List (Bor (List ℕ))) (k : ℕ) → f (texts (take (k - 0) slots)) ≡ f (texts (take k slots))
 known_part f slots k = let none : k - 0 ≡ k = omega arith in ap (λ (j : ℕ). f (texts (take j slots))) none
 
-pub returns-in-default : goal.returns-in-default
-returns-in-default c =
+pub returns-in_default : goal.returns-in_default
+returns-in_default c =
     let rest = c.loop-done.rest.now in
     names_stop c.args.count c.loop-done.done (omega arith) (texts (take c.loop-done.done c.loop-done.slots)) rest
-    (c.in-default.ensures ∙ known_part (λ ms. name_field_at ms rest) c.loop-done.slots c.loop-done.done)
+    (c.in_default.ensures ∙ known_part (λ ms. name_field_at ms rest) c.loop-done.slots c.loop-done.done)
     ∙ c.loop-done.invariant.1
 
 pub loop-done-preserved : goal.loop-done-preserved

@@ -3,4 +3,4 @@ use Rattle.image.proofs.Fronts.{count_some}
 use Rattle.image.proofs.fields.split_count.Goals as goal
 
 pub returns : goal.returns
-returns c = count_some c.args.most c.args.bytes.now c.from-be-bytes-count.result (omega (arith, ltb-true, ltb-false)) (omega arith) (omega arith) c.from-be-bytes-count.ensures (omega arith) (omega arith)
+returns c = count_some c.args.most c.args.bytes.now c.from_be_bytes-count.result (omega (arith, ltb-true, ltb-false)) (omega arith) (omega arith) c.from_be_bytes-count.ensures (omega arith) (omega arith)

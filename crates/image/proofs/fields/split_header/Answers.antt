@@ -4,5 +4,5 @@ use Rattle.image.proofs.fields.split_header.Goals as goal
 
 pub returns-then-length-body : goal.returns-then-length-body
 returns-then-length-body c =
-    body_ok c.args.bytes.now c.from-be-bytes-length.result (omega (arith, ltb-true, ltb-false)) (omega arith) (omega arith) (omega arith) (omega arith) (omega arith)
-    c.from-be-bytes-length.ensures c.if-length-body.true
+    body_ok c.args.bytes.now c.from_be_bytes-length.result (omega (arith, ltb-true, ltb-false)) (omega arith) (omega arith) (omega arith) (omega arith) (omega arith)
+    c.from_be_bytes-length.ensures c.if-length-body.true

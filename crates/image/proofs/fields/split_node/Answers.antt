@@ -3,4 +3,4 @@ use Rattle.image.proofs.Fronts.{node_some}
 use Rattle.image.proofs.fields.split_node.Goals as goal
 
 pub returns : goal.returns
-returns c = node_some c.args.bytes.now c.from-be-bytes-label.result (omega (arith, ltb-true, ltb-false)) (omega arith) (omega arith) c.from-be-bytes-label.ensures
+returns c = node_some c.args.bytes.now c.from_be_bytes-label.result (omega (arith, ltb-true, ltb-false)) (omega arith) (omega arith) c.from_be_bytes-label.ensures

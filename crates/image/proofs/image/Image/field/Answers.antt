@@ -2,7 +2,7 @@ use Rattle.std.proofs.Common.{sym, ap, ◌∙◌, inl, inr, arith}
 use Rattle.tree.specs.Nodes.{Node}
 use Rattle.tree.proofs.Slots.{node_none}
 use Rattle.stored.specs.Openings.{nodes_in}
-use Rattle.image.proofs.Nodes.{length_nodes, node_at}
+use Rattle.image.proofs.Nodes.{length_nodes, node_shown_at}
 use Rattle.image.proofs.image.Image.field.Goals as goal
 
 pub returns-then-node-eq0 : goal.returns-then-node-eq0
@@ -13,5 +13,5 @@ returns-then-node-eq0 c =
 
 pub returns : goal.returns
 returns c =
-    let e = node_at c.args.self.now.nodes.now c.args.node c.if-node-eq0.false (omega arith) in
-    record { label = c.from-be-bytes-label.ensures ∙ sym (ap (λ (n : Node). n.label) e); depth = sym (ap (λ (n : Node). n.depth) e) }
+    let e = node_shown_at c.args.self.now.nodes.now c.args.node c.if-node-eq0.false (omega arith) in
+    record { label = c.from_be_bytes-label.ensures ∙ sym (ap (λ (n : Node). n.label) e); depth = sym (ap (λ (n : Node). n.depth) e) }

@@ -2,6 +2,6 @@ use Rattle.std.proofs.Common.{refl, arith}
 use Rattle.tree.specs.Nodes.{lawful}
 use Rattle.image.proofs.image.Image.new.Goals as goal
 
-pub invariant-of-result : goal.invariant-of-result
+pub invariant_of-result : goal.invariant_of-result
 unfolding lawful
-invariant-of-result c = (omega arith, (refl, (refl, tt)))
+invariant_of-result c = record { few = omega arith; named = refl; tree = refl }

@@ -5,8 +5,8 @@ use Rattle.stored.specs.Openings.{nodes_in}
 use Rattle.image.proofs.Nodes.{length_nodes}
 use Rattle.image.proofs.image.methods.ImageTree.count.Goals as goal
 
-pub overflow-cast-result : goal.overflow-cast-result
-overflow-cast-result c =
+pub overflow_cast-result : goal.overflow_cast-result
+overflow_cast-result c =
     let m = (lawful_laws node_limit (nodes_in 1 c.args.self.now.nodes.now) c.args.self.now.tree).most in
     let e = length_nodes 1 c.args.self.now.nodes.now in
     search rules
