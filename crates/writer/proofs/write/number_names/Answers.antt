@@ -12,13 +12,13 @@ loop-node-init g c =
     let ms = listed c.args.names.now in
     (omega arith, sofar_none ms (g.T.Tree.nodes c.args.tree.now) c.args.numbering.now (list_to ms c.args.names.now.good).most c.requires.names c.requires.numbers)
 
-pub returns-in-default : goal.returns-in-default
-returns-in-default g c =
+pub returns-in_default : goal.returns-in_default
+returns-in_default g c =
     let ns = g.T.Tree.nodes c.args.tree.now in
     let m = c.loop-node.node in
     let ms = listed c.args.names.now in
     let low = label_some ns m (omega arith) node_limit (g.T.Tree.keeps c.args.tree.now) in
-    nameless ms ns m (omega arith) c.loop-node.numbering c.loop-node.invariant.1 (omega (arith, c.label-label.ensures, named_not ms c.label-label.result (omega (arith, c.label-label.ensures)) c.in-default.ensures))
+    nameless ms ns m (omega arith) c.loop-node.numbering c.loop-node.invariant.1 (omega (arith, c.label-label.ensures, named_not ms c.label-label.result (omega (arith, c.label-label.ensures)) c.in_default.ensures))
 
 pub add-requires : goal.add-requires
 add-requires g c =

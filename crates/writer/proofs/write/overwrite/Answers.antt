@@ -9,6 +9,6 @@ returns c =
     let n = length c.args.part.now in
     let size : at + n - at ≡ n = omega arith in
     record {
-      bytes = ap₂ (λ (y : List ℕ) (z : List ℕ). take at xs ++ (y ++ z)) c.copy-from-slice.ensures.after (ap (λ (k : ℕ). drop k (drop at xs)) size ∙ drop-drop n at xs);
+      bytes = ap₂ (λ (y : List ℕ) (z : List ℕ). take at xs ++ (y ++ z)) c.copy_from_slice.ensures.after (ap (λ (k : ℕ). drop k (drop at xs)) size ∙ drop-drop n at xs);
       end = refl;
     }

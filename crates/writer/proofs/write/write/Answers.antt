@@ -11,48 +11,48 @@ use Rattle.writer.specs.Numberings.{ordered}
 use Rattle.writer.proofs.Appearances.{ordered_long}
 use Rattle.writer.proofs.Images.{names_short, too_short, all_written}
 use Rattle.writer.proofs.write.write.Goals as goal
-use Rattle.writer.proofs.write.write.Goals.{In-ok-number-names, After-image-length-length}
+use Rattle.writer.proofs.write.write.Goals.{In_ok-number_names, After-image_length-length}
 
-short : (g : _) (c : In-ok-number-names g) → All ShortName (ordered c.number-names.new.numbering)
+short : (g : _) (c : In_ok-number_names g) → All ShortName (ordered c.number_names.new.numbering)
 short g c =
     let ms = listed c.args.names.now in
-    let done = c.in-ok-number-names.ensures in
-    names_short ms (g.T.Tree.nodes c.args.tree.now) c.number-names.new.numbering (g.T.Tree.keeps c.args.tree.now) (list_to ms c.args.names.now.good) done.0 done.1
+    let done = c.in_ok-number_names.ensures in
+    names_short ms (g.T.Tree.nodes c.args.tree.now) c.number_names.new.numbering (g.T.Tree.keeps c.args.tree.now) (list_to ms c.args.names.now.good) done.0 done.1
 
-pub image-length-length-requires : goal.image-length-length-requires
-image-length-length-requires g c = short g (goal.at.image-length-length-requires g c).In-ok-number-names
+pub image_length-length-requires : goal.image_length-length-requires
+image_length-length-requires g c = short g (goal.at.image_length-length-requires g c).In_ok-number_names
 
-pub overflow-cast-result : goal.overflow-cast-result
-overflow-cast-result g c =
-    let n = c.number-names.new.numbering in
-    let names = length_names (ordered n) (short g (goal.at.overflow-cast-result g c).In-ok-number-names) in
+pub overflow_cast-result : goal.overflow_cast-result
+overflow_cast-result g c =
+    let n = c.number_names.new.numbering in
+    let names = length_names (ordered n) (short g (goal.at.overflow_cast-result g c).In_ok-number_names) in
     let long = ordered_long n in
     let nodes = (g.T.Tree.keeps c.args.tree.now).most in
     let count = c.count.ensures in
-    let value = c.image-length-length.ensures.value in
+    let value = c.image_length-length.ensures.value in
     search rules
 
 -- the length by the nodes, and not by their count
-value : (g : _) (c : After-image-length-length g) → c.image-length-length.result ≡ 9 + (length (flat_map name_field (ordered c.number-names.new.numbering)) + 3 * length (g.T.Tree.nodes c.args.tree.now))
-value g c = c.image-length-length.ensures.value ∙ ap (λ (k : ℕ). 9 + (length (flat_map name_field (ordered c.number-names.new.numbering)) + 3 * k)) c.count.ensures
+value : (g : _) (c : After-image_length-length g) → c.image_length-length.result ≡ 9 + (length (flat_map name_field (ordered c.number_names.new.numbering)) + 3 * length (g.T.Tree.nodes c.args.tree.now))
+value g c = c.image_length-length.ensures.value ∙ ap (λ (k : ℕ). 9 + (length (flat_map name_field (ordered c.number_names.new.numbering)) + 3 * k)) c.count.ensures
 
 pub returns-then-out-length : goal.returns-then-out-length
 returns-then-out-length g c =
-    let done = c.in-ok-number-names.ensures in
-    too_short (listed c.args.names.now) (g.T.Tree.nodes c.args.tree.now) c.number-names.new.numbering (g.T.Tree.keeps c.args.tree.now) done.0 done.1 c.image-length-length.result (value g (goal.at.returns-then-out-length g c).After-image-length-length) c.args.out.now c.if-out-length.true
+    let done = c.in_ok-number_names.ensures in
+    too_short (listed c.args.names.now) (g.T.Tree.nodes c.args.tree.now) c.number_names.new.numbering (g.T.Tree.keeps c.args.tree.now) done.0 done.1 c.image_length-length.result (value g (goal.at.returns-then-out-length g c).After-image_length-length) c.args.out.now c.if-out-length.true
 
-pub write-all-requires : goal.write-all-requires
-write-all-requires g c =
+pub write_all-requires : goal.write_all-requires
+write_all-requires g c =
     let ms = listed c.args.names.now in
     let list = list_to ms c.args.names.now.good in
     record {
-      named = All-weaker (λ (n : Node). n.label ≤ length ms) (λ (n : Node). n.label ≤ 512) (λ n l. omega (arith, list.most)) (g.T.Tree.nodes c.args.tree.now) c.in-ok-number-names.ensures.0;
-      short = short g (goal.at.write-all-requires g c).In-ok-number-names;
-      value = value g (goal.at.write-all-requires g c).After-image-length-length;
+      named = All-weaker (λ (n : Node). n.label ≤ length ms) (λ (n : Node). n.label ≤ 512) (λ n l. omega (arith, list.most)) (g.T.Tree.nodes c.args.tree.now) c.in_ok-number_names.ensures.0;
+      short = short g (goal.at.write_all-requires g c).In_ok-number_names;
+      value = value g (goal.at.write_all-requires g c).After-image_length-length;
       room = c.if-out-length.false;
     }
 
 pub returns : goal.returns
 returns g c =
-    let done = c.in-ok-number-names.ensures in
-    all_written (listed c.args.names.now) (g.T.Tree.nodes c.args.tree.now) c.number-names.new.numbering (g.T.Tree.keeps c.args.tree.now) done.0 done.1 c.image-length-length.result (value g (goal.at.returns g c).After-image-length-length) c.args.out.now c.write-all.new.out c.if-out-length.false c.write-all.ensures
+    let done = c.in_ok-number_names.ensures in
+    all_written (listed c.args.names.now) (g.T.Tree.nodes c.args.tree.now) c.number_names.new.numbering (g.T.Tree.keeps c.args.tree.now) done.0 done.1 c.image_length-length.result (value g (goal.at.returns g c).After-image_length-length) c.args.out.now c.write_all.new.out c.if-out-length.false c.write_all.ensures

@@ -12,8 +12,8 @@ use Rattle.writer.proofs.write.write_names.Goals.{In-loop-name}
 pub loop-name-init : goal.loop-name-init
 loop-name-init c = laid_none c.args.out.now c.args.at (omega arith)
 
-pub overflow-cast-name : goal.overflow-cast-name
-overflow-cast-name c = let short = name_short c.args.names.now c.loop-name.name-index c.requires.short c.loop-name-test.true in search rules
+pub overflow_cast-name : goal.overflow_cast-name
+overflow_cast-name c = let short = name_short c.args.names.now c.loop-name.name-index c.requires.short c.loop-name-test.true in search rules
 
 -- there is room for the field of the next name
 room : (c : In-loop-name) → c.loop-name.place + (1 + length (get_or c.args.names.now c.loop-name.name-index no_text).now) ≤ length c.args.out.now

@@ -30,12 +30,12 @@ loop-node-preserved g c =
     let ns = g.T.Tree.nodes c.args.tree.now in
     let numbers = c.args.numbering.now.numbers in
     let m = c.loop-node.node in
-    let bytes = c.to-be-bytes.result in
+    let bytes = c.to_be_bytes.result in
     let part = get_or bytes 0 0 ∷ get_or bytes 1 0 ∷ c.depth.result ∷ [] in
     let room : c.loop-node.place + 3 ≤ length c.args.out.now = omega (arith, c.requires.room, c.loop-node.invariant.1.end, front_long ns m (omega arith) numbers) in
     let laid = laid_more c.args.out.now c.args.at (flat_map (numbered_field numbers) (take m ns)) c.loop-node.place c.loop-node.out part c.overwrite-place.result c.overwrite-place.new.out c.loop-node.invariant.1 room c.overwrite-place.ensures.bytes c.overwrite-place.ensures.end in
     let field : part ≡ numbered_field numbers (node_at ns (m + 1)) =
-    ap₂ (λ (x : List ℕ) (d : ℕ). get_or x 0 0 ∷ get_or x 1 0 ∷ d ∷ []) (c.to-be-bytes.ensures ∙ ap two (c.number.ensures ∙ ap (λ (l : ℕ). get_or numbers (l - 1) 0) c.label.ensures)) c.depth.ensures in
+    ap₂ (λ (x : List ℕ) (d : ℕ). get_or x 0 0 ∷ get_or x 1 0 ∷ d ∷ []) (c.to_be_bytes.ensures ∙ ap two (c.number.ensures ∙ ap (λ (l : ℕ). get_or numbers (l - 1) 0) c.label.ensures)) c.depth.ensures in
     (omega arith, subst (λ (p : List ℕ). Laid c.args.out.now c.args.at p c.overwrite-place.result c.overwrite-place.new.out) (ap (λ (z : List ℕ). flat_map (numbered_field numbers) (take m ns) ++ z) field ∙ fields_more ns m (omega arith) numbers) laid)
 
 pub returns : goal.returns

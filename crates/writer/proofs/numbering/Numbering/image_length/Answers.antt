@@ -16,9 +16,9 @@ few c =
 short : (c : In-loop-name) → All ShortName (texts c.names-names.result.now)
 short c = subst (All ShortName) (sym c.names-names.ensures) c.requires
 
-pub overflow-add-length-in-loop-name-2 : goal.overflow-add-length-in-loop-name-2
-overflow-add-length-in-loop-name-2 c =
-    let here = (goal.at.overflow-add-length-in-loop-name-2 c).In-loop-name in
+pub overflow_add-length-in-loop-name-2 : goal.overflow_add-length-in-loop-name-2
+overflow_add-length-in-loop-name-2 c =
+    let here = (goal.at.overflow_add-length-in-loop-name-2 c).In-loop-name in
     let names = c.names-names.result.now in
     let most = few here in
     let fields = fields_short names c.loop-name.name-index (short here) (omega arith) in
