@@ -8,8 +8,8 @@ pub loop-byte-preserved : goal.loop-byte-preserved
 loop-byte-preserved c =
     let bs = c.args.bytes.now in
     let i = c.loop-byte.byte-index in
-    c.in-ok-extend-from-slice.ensures.items
-    ∙ ap₂ (λ (x : List ℕ) (y : List ℕ). x ++ y) c.loop-byte.invariant (ap₂ (λ (x : ℕ) (y : ℕ). 32 ∷ x ∷ y ∷ []) c.digit_of.ensures c.hex-digit-in-loop-byte.ensures)
+    c.in_ok-extend_from_slice.ensures.items
+    ∙ ap₂ (λ (x : List ℕ) (y : List ℕ). x ++ y) c.loop-byte.invariant (ap₂ (λ (x : ℕ) (y : ℕ). 32 ∷ x ∷ y ∷ []) c.hex_digit.ensures c.hex_digit-in-loop-byte.ensures)
     ∙ flat_map_more hex_byte (codes "image") (take i bs) (get_or bs i 0)
     ∙ ap (λ (z : List ℕ). codes "image" ++ flat_map hex_byte z) (sym (take_more bs i 0 (omega arith)))
 
@@ -17,6 +17,6 @@ pub returns : goal.returns
 returns c =
     let bs = c.args.bytes.now in
     let i = c.loop-byte.byte-index in
-    c.in-ok-push.ensures.items
+    c.in_ok-push.ensures.items
     ∙ ap (λ (z : List ℕ). z ++ codes "\n") (c.loop-byte.invariant ∙ ap (λ (z : List ℕ). codes "image" ++ flat_map hex_byte z) (take_all i bs (omega arith)))
     ∙ append_assoc (codes "image") (flat_map hex_byte bs) (codes "\n")

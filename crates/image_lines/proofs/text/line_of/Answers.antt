@@ -9,7 +9,7 @@ joined_line l d n = simp append_assoc
 
 pub returns : goal.returns
 returns c =
-    let front = c.in-ok-line.ensures.items ∙ c.as-bytes.ensures.value ∙ c.in-ok-format.ensures.ok in
-    c.in-ok-push.ensures.items
-    ∙ ap (λ (z : List ℕ). z ++ codes "\n") (c.in-ok-extend-from-slice.ensures.items ∙ ap (λ (z : List ℕ). z ++ c.args.name.now) front)
+    let front = c.in_ok-line.ensures.items ∙ c.as_bytes.ensures.value ∙ c.in_ok-format.ensures.ok in
+    c.in_ok-push.ensures.items
+    ∙ ap (λ (z : List ℕ). z ++ codes "\n") (c.in_ok-extend_from_slice.ensures.items ∙ ap (λ (z : List ℕ). z ++ c.args.name.now) front)
     ∙ joined_line c.args.label c.args.depth c.args.name.now
