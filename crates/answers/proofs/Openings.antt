@@ -1,5 +1,5 @@
 -- The slots that reading a plan fills are what the table and the name list then show.
-use Rattle.std.proofs.Common.{◌≡◌, ℕ, ◌-◌, List, map, length, take, sym, ap, ◌∙◌, subst, arith, Bor}
+use Rattle.std.proofs.Common.{◌≡◌, ℕ, ◌-◌, List, length, take, sym, ap, ◌∙◌, subst, arith, Bor}
 use Rattle.std.proofs.lemmas.List.{map-id}
 use Rattle.names.specs.Lists.{texts}
 use Rattle.tree.specs.declared.slot.Slot.{Slot}

@@ -3,7 +3,7 @@
 --     refused_line n p          the refusal n at the place p: `refused 42 at 0`
 --     plan_refused_line n p     the same of a plan: `plan refused 5 at 3`
 --     answer_line ns ms s       the answer to the question text s, asked of the nodes ns, whose labels are the numbers of the names ms
-use Rattle.std.specs.Prelude.{ℕ, List, [], ◌∷◌, ◌++◌, length, Ok, Err, codes, decimal, Result}
+use Rattle.std.specs.Prelude.{ℕ, List, ◌++◌, length, Ok, Err, codes, decimal, Result}
 use Rattle.std.specs.List.{flat_map}
 use Rattle.tree.specs.Nodes.{Node}
 use Rattle.path.specs.Faults.{number, place}

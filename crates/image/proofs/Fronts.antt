@@ -1,13 +1,12 @@
 -- Fields at the front of a slice, as slice patterns take them.
-use Rattle.std.proofs.Common.{◌≡◌, ℕ, zero, suc, ◌+◌, ◌-◌, ◌*◌, ◌<◌, ◌≤◌, max, Bool, true, false, cond, ◌&&◌, eqb, ltb, leb, List, [], ◌∷◌, ◌++◌, length, get_or, take, drop, Some, None, Ok, Err, Option, Result, sym, refl, ap, ◌∙◌, subst, ap₂, arith}
-use Rattle.std.proofs.lemmas.List.{take_rest, length-drop}
-use Rattle.std.proofs.lemmas.Bool.{cond-true, cond-false, lt-ltb, le-leb, lt-leb, eq-eqb, ne_eqb, and_from}
+use Rattle.std.proofs.Common.{◌≡◌, ℕ, suc, ◌+◌, ◌-◌, ◌*◌, ◌<◌, ◌≤◌, max, Bool, true, false, cond, ◌&&◌, eqb, List, [], ◌∷◌, ◌++◌, length, get_or, take, drop, Some, None, Ok, Err, Option, Result, sym, ap, ◌∙◌, ap₂, arith}
+use Rattle.std.proofs.lemmas.List.{take_rest}
+use Rattle.std.proofs.lemmas.Bool.{cond-true, cond-false, lt-ltb, le-leb, eq-eqb, and_from}
 use Rattle.names.specs.Lists.{good_beside}
 use Rattle.names.proofs.Runs.{at_first}
 use Rattle.tree.specs.Nodes.{shape}
-use Rattle.stored.specs.declared.fault.ImageFault.{ImageFault}
 use Rattle.stored.specs.declared.fault.ImageFault.TheVariants.{Length, Version}
-use Rattle.stored.specs.Bytes.{two_at, four_at}
+use Rattle.stored.specs.Bytes.{four_at}
 use Rattle.stored.specs.Openings.{counted, count_at, name_field_at, names_at, in_turn, node_field_at, nodes_at, sized, body_at}
 
 -- the rest of a text behind its first k bytes, as a slice pattern gives it

@@ -1,22 +1,21 @@
 -- What opening finds, by what its parts answer.
-use Rattle.std.proofs.Common.{◌≡◌, ℕ, ◌+◌, ◌*◌, ◌≤◌, Bool, true, false, List, [], ◌∷◌, ◌++◌, length, take, Some, None, Ok, Err, Option, Result, sym, refl, ap, ◌∙◌, subst, ap₂, arith, Bor}
+use Rattle.std.proofs.Common.{◌≡◌, ℕ, ◌+◌, ◌*◌, ◌≤◌, Bool, true, false, List, [], length, take, Some, None, Ok, Err, Result, sym, refl, ap, ◌∙◌, subst, arith, Bor}
 use Rattle.std.proofs.lemmas.Bool.{both_ways}
 use Rattle.names.specs.Lists.{IsNameList, texts}
 use Rattle.names.proofs.Firsts.{good_none}
-use Rattle.tree.specs.Nodes.{Node as TreeNode, Laws, node_limit, lawful}
+use Rattle.tree.specs.Nodes.{Node as TreeNode, node_limit, lawful}
 use Rattle.tree.specs.Laws.{laws_lawful}
 use Rattle.stored.specs.declared.fault.ImageFault.{ImageFault}
 use Rattle.stored.specs.declared.fault.ImageFault.TheVariants.{Name, Node}
-use Rattle.stored.specs.Plans.{Named, Stored, stored, Storable}
-use Rattle.stored.specs.Images.{image}
-use Rattle.stored.specs.Openings.{count_at, names_at, nodes_in, all_names_at, all_nodes_at, place_of, with_nodes, with_names, opened_body, body_at, opened}
+use Rattle.stored.specs.Plans.{stored}
+use Rattle.stored.specs.Openings.{count_at, names_at, all_names_at, all_nodes_at, place_of, with_nodes, with_names, body_at, opened}
 use Rattle.stored.proofs.NameFields.{names_are, ok_same, err_ok}
 use Rattle.stored.proofs.Openings.{names_behind, body_behind, count_is, all_nodes_laws, images_open}
-use Rattle.stored.proofs.Places.{Near, near_here, near_more, count_near, names_near, all_nodes_near, end_of}
+use Rattle.stored.proofs.Places.{Near, near_more, count_near, names_near, all_nodes_near, end_of}
 use Rattle.image.specs.Fields.{names_told}
 use Rattle.image.specs.Named.{readable, names_in}
 use Rattle.image.specs.declared.image.Image.{Image}
-use Rattle.image.specs.Showing.{shown, Opens, Judged}
+use Rattle.image.specs.Showing.{Opens, Judged}
 
 -- what is promised of an opening that answers r
 pub record Promised (s : List ℕ) (before : Image) (r : Result (Unit {0}) ImageFault) (after : Image) : Type 0 where

@@ -4,7 +4,7 @@ use Rattle.std.specs.List.{AllByRecursion as All}
 use Rattle.std.specs.Str.{bytes_eq}
 use Rattle.std.proofs.lemmas.List.{take_rest}
 use Rattle.std.proofs.lemmas.Slice.Eq.{bytes_eq-Decides}
-use Rattle.std.proofs.lemmas.Bool.{cond-true, cond-false, eq-eqb, ne_eqb, eqb-true, le-leb, leb-true, lt-ltb, le-ltb, and_parts, and_from, both_ways, cases_Bool, cases_lt}
+use Rattle.std.proofs.lemmas.Bool.{cond-true, cond-false, eq-eqb, ne_eqb, eqb-true, le-leb, leb-true, lt-ltb, le-ltb, and_parts, and_from, both_ways, cases_lt}
 use Rattle.names.specs.declared.list.NoNameList.{NoNameList}
 use Rattle.names.specs.NameLists.{named, Sets}
 use Rattle.names.specs.Bytes.{name_start, name_byte}

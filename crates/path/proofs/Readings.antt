@@ -1,17 +1,16 @@
 -- What reading a question text finds, and when a text is steps written one after another.
-use Rattle.std.proofs.Common.{◌≡◌, ℕ, zero, suc, ◌-◌, ◌<◌, ◌≤◌, Bool, true, false, cond, ◌||◌, eqb, ltb, List, [], ◌∷◌, ◌++◌, map, length, Some, None, Ok, Err, Option, Result, sym, refl, ap, ◌∙◌, subst, arith}
+use Rattle.std.proofs.Common.{◌≡◌, ℕ, zero, suc, ◌≤◌, Bool, false, ◌||◌, ltb, List, [], ◌∷◌, ◌++◌, map, length, Some, None, Ok, Err, Option, Result, sym, refl, ap, ◌∙◌, subst, arith}
 use Rattle.std.specs.List.{flat_map, AllByRecursion as All}
 use Rattle.std.proofs.lemmas.List.{length-append, length-map}
 use Rattle.std.proofs.lemmas.Bool.{ne_eqb, le-ltb, cond-false}
 use Rattle.names.specs.Bytes.{name_byte}
 use Rattle.names.specs.Words.{begins}
 use Rattle.names.proofs.Found.{none_some}
-use Rattle.tree.specs.declared.step.Axis.{Axis}
 use Rattle.tree.specs.declared.step.Axis.TheVariants.{Child, Descendant}
 use Rattle.path.specs.declared.fault.QuestionFault.{QuestionFault}
-use Rattle.path.specs.declared.fault.QuestionFault.TheVariants.{Length, NoStep, TooMany}
-use Rattle.path.specs.Wordings.{WordTest, star, named, Wording, slashes, test_bytes, written, meant, Good, Longest, Begins, Steps, none, more, first_step}
-use Rattle.path.specs.Questions.{Stop, at_end, no_step, enough, Reading, stopped, behind, ending, read_on, IsNoStep, Stops, Reads, wrong_length, answered, answer, steps_read, Written, Spelled}
+use Rattle.path.specs.declared.fault.QuestionFault.TheVariants.{Length}
+use Rattle.path.specs.Wordings.{WordTest, star, named, Wording, slashes, test_bytes, written, meant, Good, Longest, Steps, none, more, first_step}
+use Rattle.path.specs.Questions.{Stop, at_end, no_step, enough, Reading, stopped, behind, ending, read_on, IsNoStep, Stops, Reads, wrong_length, answered, answer, steps_read, Spelled}
 use Rattle.path.proofs.Wordings.{step_sound, step_complete, test_some}
 
 no_step_here : (s : List ℕ) → first_step s ≡ None → IsNoStep s

@@ -3,7 +3,7 @@
 --     Reads c s r                       r is that, said of the steps
 --     Read ms s before r after          reading s answers r and turns the step slots `before` into `after`
 --     Spelled c s r                     r is an Ok exactly if s is at most c steps, written one after another
-use Rattle.std.specs.Prelude.{◌≡◌, ℕ, zero, suc, ◌-◌, ◌<◌, ◌≤◌, min, Bool, cond, ◌||◌, List, [], ◌∷◌, ◌++◌, map, length, drop, Some, None, Ok, Err, Option, Result, ◌==◌, nat_lt}
+use Rattle.std.specs.Prelude.{◌≡◌, ℕ, zero, suc, ◌-◌, ◌≤◌, min, Bool, cond, ◌||◌, List, [], ◌∷◌, ◌++◌, map, length, drop, Some, None, Ok, Err, Result, ◌==◌, nat_lt}
 use Rattle.std.specs.List.{flat_map, AllByRecursion as All}
 use Rattle.tree.specs.declared.step.Step.{Step}
 use Rattle.path.specs.declared.fault.QuestionFault.{QuestionFault}

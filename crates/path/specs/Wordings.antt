@@ -4,7 +4,7 @@
 --     Begins s w r      the text s begins with the step w, its name as long as it goes, and r follows
 --     Steps r ws s      the text s is the steps ws one after another, and then r
 --     first_step s      the step that s begins with, and what follows it
-use Rattle.std.specs.Prelude.{◌≡◌, ℕ, Bool, true, false, cond, List, [], ◌∷◌, ◌++◌, Some, None, Option, ◌==◌}
+use Rattle.std.specs.Prelude.{◌≡◌, ℕ, false, cond, List, [], ◌∷◌, ◌++◌, Some, None, Option, ◌==◌}
 use Rattle.names.specs.Bytes.{name_start, name_byte}
 use Rattle.names.specs.Words.{Word, front, after, begins}
 use Rattle.names.specs.Lists.{number_of}

@@ -1,10 +1,10 @@
 -- Each name of a derivation is that of a node, and names are numbered as they first appear.
-use Rattle.std.proofs.Common.{◌≡◌, ℕ, zero, suc, ◌+◌, ◌-◌, ◌<◌, ◌≤◌, List, [], ◌∷◌, ◌++◌, map, length, get_or, sym, refl, ap, ◌∙◌, subst, ⊎_elim, arith}
+use Rattle.std.proofs.Common.{◌≡◌, ℕ, zero, suc, ◌+◌, ◌-◌, ◌<◌, ◌≤◌, List, [], ◌∷◌, map, length, get_or, sym, ap, ◌∙◌, subst, ⊎_elim, arith}
 use Rattle.std.specs.List.{AllByRecursion as All}
 use Rattle.std.proofs.lemmas.List.{get_or-map, length-map, length_push}
 use Rattle.std.proofs.ByRecursion.{All-get_or}
 use Rattle.std.proofs.lemmas.Bool.{cases_lt}
-use Rattle.names.specs.Lists.{before, with_name}
+use Rattle.names.specs.Lists.{before}
 use Rattle.names.proofs.Finds.{before_le}
 use Rattle.tags.specs.Pieces.{Stands}
 use Rattle.tree.specs.declared.slot.Slot.{Slot}

@@ -1,10 +1,9 @@
 -- Node fields written and read again.
-use Rattle.std.proofs.Common.{◌≡◌, ℕ, zero, suc, ◌+◌, ◌*◌, ◌/◌, ◌%◌, ◌<◌, ◌≤◌, max, Bool, true, false, cond, ◌&&◌, ltb, leb, List, [], ◌∷◌, ◌++◌, length, Some, None, Ok, Err, Option, Result, sym, refl, ap, ◌∙◌, subst, ap₂, arith}
+use Rattle.std.proofs.Common.{◌≡◌, ℕ, zero, suc, ◌+◌, ◌*◌, ◌/◌, ◌%◌, ◌≤◌, max, Bool, true, false, cond, ◌&&◌, ltb, leb, List, [], ◌∷◌, ◌++◌, length, Some, None, Ok, Err, Option, Result, sym, refl, ap, ◌∙◌, subst, ap₂, arith}
 use Rattle.std.specs.List.{flat_map, AllByRecursion as All}
-use Rattle.std.proofs.lemmas.List.{append_assoc, length-append}
 use Rattle.std.proofs.lemmas.Bool.{cond-true, lt-ltb, ltb-true, le-leb, leb-true, and_parts, and_from}
-use Rattle.names.proofs.Found.{none_some, cond_some, cond_either, some_same}
-use Rattle.tree.specs.Nodes.{Node, nowhere, shape, chain}
+use Rattle.names.proofs.Found.{none_some, cond_some, some_same}
+use Rattle.tree.specs.Nodes.{Node, shape, chain}
 use Rattle.stored.specs.Bytes.{two}
 use Rattle.stored.specs.Images.{node_field}
 use Rattle.stored.specs.Openings.{in_turn, node_field_at, nodes_at, nodes_in}

@@ -1,19 +1,19 @@
 -- Images of plans open, and what opens is the image of a plan.
-use Rattle.std.proofs.Common.{◌≡◌, ℕ, suc, ◌+◌, ◌*◌, ◌<◌, ◌≤◌, Bool, true, false, cond, ◌&&◌, eqb, leb, List, [], ◌∷◌, ◌++◌, length, take, Some, None, Ok, Err, Option, Result, sym, refl, ap, ◌∙◌, subst, ap₂, arith}
+use Rattle.std.proofs.Common.{◌≡◌, ℕ, ◌+◌, ◌*◌, ◌≤◌, Bool, true, false, cond, ◌&&◌, eqb, leb, List, [], ◌∷◌, ◌++◌, length, take, Some, None, Ok, Err, Option, Result, sym, refl, ap, ◌∙◌, subst, ap₂, arith}
 use lib.ListN.{length-map}
 use Rattle.std.specs.List.{flat_map, AllByRecursion as All}
-use Rattle.std.proofs.lemmas.List.{append-nil, append_assoc, length-append, nil_from_length, take_all}
+use Rattle.std.proofs.lemmas.List.{append-nil, length-append, nil_from_length, take_all}
 use Rattle.std.proofs.lemmas.Bool.{cond-true, le-leb, leb-true, eq-eqb, eqb-true, and_parts, and_from}
-use Rattle.names.specs.Lists.{ShortName, IsNameList}
+use Rattle.names.specs.Lists.{ShortName}
 use Rattle.names.proofs.Found.{none_some, cond_some, some_same}
 use Rattle.names.proofs.Firsts.{Good, good_none}
 use Rattle.tree.specs.Nodes.{Node as TreeNode, Laws, nowhere, node_limit}
 use Rattle.tree.specs.Laws.{laws_chain}
 use Rattle.stored.specs.declared.fault.ImageFault.{ImageFault}
-use Rattle.stored.specs.declared.fault.ImageFault.TheVariants.{Length, Version, Name, Node}
+use Rattle.stored.specs.declared.fault.ImageFault.TheVariants.{Length, Version}
 use Rattle.stored.specs.Bytes.{two, four, two_at, four_at}
 use Rattle.stored.specs.Plans.{Named, Stored, named_by, plan_of, names_of, nodes_by, stored, Storable}
-use Rattle.stored.specs.Images.{name_field, node_field, body, written, image}
+use Rattle.stored.specs.Images.{name_field, node_field, body, image}
 use Rattle.stored.specs.Openings.{counted, count_at, names_at, nodes_at, nodes_in, all_names_at, ended, all_nodes_at, with_nodes, with_names, opened_body, sized, body_at, opened}
 use Rattle.stored.specs.Laws.{ImagesOpen, OpenedAreImages}
 use Rattle.stored.proofs.Bytes.{two_read, two_is, four_read, four_is}

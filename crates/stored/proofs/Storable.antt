@@ -1,10 +1,10 @@
 -- Plans that can be stored, and the trees that they come from.
-use Rattle.std.proofs.Common.{◌≡◌, ℕ, zero, suc, ◌<◌, ◌≤◌, max, Bool, true, ◌&&◌, leb, List, [], ◌∷◌, map, length, get_or, sym, refl, ap, ◌∙◌, subst, arith}
+use Rattle.std.proofs.Common.{◌≡◌, ℕ, zero, suc, ◌<◌, ◌≤◌, max, true, leb, List, [], ◌∷◌, length, get_or, refl, arith}
 use lib.ListN.{length-map}
 use Rattle.std.specs.List.{AllByRecursion as All}
-use Rattle.std.proofs.ByRecursion.{All-get_or, All-map}
+use Rattle.std.proofs.ByRecursion.{All-get_or}
 use Rattle.std.proofs.lemmas.Bool.{le-leb, and_parts, and_from}
-use Rattle.names.specs.Lists.{before, ShortName, IsNameList}
+use Rattle.names.specs.Lists.{before, ShortName}
 use Rattle.names.proofs.Names.{before_first}
 use Rattle.names.proofs.Firsts.{Good, good_none, good_firsts, first_names_few}
 use Rattle.tree.specs.Nodes.{Node, Laws, nowhere, node_limit, shape, follows, chain, lawful}

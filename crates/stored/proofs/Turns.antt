@@ -1,8 +1,7 @@
 -- Names numbered as they first appear, and labels that come in their turn.
-use Rattle.std.proofs.Common.{◌≡◌, ℕ, zero, suc, ◌+◌, ◌-◌, ◌<◌, ◌≤◌, max, Bool, true, false, cond, ◌&&◌, ltb, leb, ◌⊎◌, List, [], ◌∷◌, ◌++◌, map, length, get_or, take, fold, sym, refl, ap, ◌∙◌, subst, ap₂, inl, inr, ⊎_elim, add-one, arith}
+use Rattle.std.proofs.Common.{◌≡◌, ℕ, zero, suc, ◌+◌, ◌<◌, ◌≤◌, max, true, leb, List, [], ◌∷◌, length, get_or, take, fold, sym, refl, ap, ◌∙◌, subst, ap₂, ⊎_elim, add-one, arith}
 use native.Mathlib.Nat.{max-le, max-eq_left, max-eq_right}
-use Rattle.std.specs.List.{AllByRecursion as All}
-use Rattle.std.proofs.lemmas.List.{length-append, length-take-le, take_all, take_more, get_or-take}
+use Rattle.std.proofs.lemmas.List.{length-append, length-take-le, take_more, get_or-take}
 use Rattle.std.proofs.lemmas.Bool.{le-leb, leb-true, and_parts, and_from, cases_lt}
 use Rattle.names.specs.Lists.{before, number_of, with_name, Distinct}
 use Rattle.names.proofs.Finds.{before_le}

@@ -1,5 +1,5 @@
 -- Which kinds of bytes exclude one another.
-use Rattle.std.proofs.Common.{◌≡◌, ℕ, true, false, eqb, arith}
+use Rattle.std.proofs.Common.{◌≡◌, ℕ, true, false, arith}
 use Rattle.std.proofs.lemmas.Bool.Decides.{nat_tests}
 use Rattle.names.specs.Bytes.{white, name_start, name_byte}
 use Rattle.tags.specs.Values.{quote}

@@ -1,7 +1,6 @@
 -- What the scanner finds is a tag of the grammar.
 use Rattle.std.proofs.Common.{◌≡◌, ℕ, zero, suc, ◌<◌, ◌≤◌, Bool, true, false, cond, ◌&&◌, eqb, ◌⊎◌, List, [], ◌∷◌, ◌++◌, length, Some, None, Option, sym, refl, ap, ◌∙◌, subst, ap₂, inl, inr, ⊎_elim, arith}
 use Rattle.std.proofs.lemmas.Bool.{eqb-true, and_parts, both_ways}
-use Rattle.std.specs.List.{AllByRecursion as All}
 use Rattle.names.specs.Bytes.{white, name_start, name_byte}
 use Rattle.tags.specs.Values.{quote, in_value}
 use Rattle.tags.specs.Tags.{Tag, start, empty, end, Run, Name, Gap, Value, Attribute, Attributes, none, more, TagAt, closed, quoted, valued, attribute, and_then, attributes, shut, close, opening, ended, ending, inside, scan}

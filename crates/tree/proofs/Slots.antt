@@ -1,8 +1,8 @@
 -- The first wrong slot, and the nodes of slots.
-use Rattle.std.proofs.Common.{◌≡◌, ℕ, zero, suc, ◌+◌, ◌-◌, ◌<◌, ◌≤◌, Bool, true, false, cond, ◌&&◌, ltb, leb, ◌⊎◌, List, [], ◌∷◌, ◌++◌, length, get_or, take, drop, Ok, Err, Result, sym, refl, ap, ◌∙◌, subst, inl, inr, add-one, arith}
+use Rattle.std.proofs.Common.{◌≡◌, ℕ, zero, suc, ◌+◌, ◌-◌, ◌<◌, ◌≤◌, Bool, true, false, cond, ◌⊎◌, List, [], ◌∷◌, ◌++◌, length, get_or, take, drop, Ok, Err, Result, sym, refl, ap, ◌∙◌, subst, inl, inr, add-one, arith}
 use Rattle.std.proofs.lemmas.List.{get_or_past, take_more, at_drop_more, at_drop_all}
-use Rattle.std.proofs.lemmas.Bool.{leb-true, ltb-true, le-leb, lt-ltb, and_from, and_parts, both_ways, cond-true, cond-false}
-use Rattle.tree.specs.Nodes.{Node, Laws, node_limit, nowhere, count, node_at, shape, follows, chain, lawful}
+use Rattle.std.proofs.lemmas.Bool.{le-leb, lt-ltb, and_from, and_parts, both_ways, cond-true, cond-false}
+use Rattle.tree.specs.Nodes.{Node, Laws, node_limit, nowhere, count, node_at, shape, chain, lawful}
 use Rattle.tree.specs.declared.fault.TableFault.{TableFault}
 use Rattle.tree.specs.declared.fault.TableFault.TheVariants.{NoTree}
 use Rattle.tree.specs.Tables.{Wrong, Sets}

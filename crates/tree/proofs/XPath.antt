@@ -1,9 +1,9 @@
 -- Steps and questions select what XPath selects.
-use Rattle.std.proofs.Common.{◌≡◌, ℕ, zero, suc, ◌<◌, ◌≤◌, Bool, true, false, ◌&&◌, eqb, ◌⊎◌, List, [], ◌∷◌, sym, refl, ap, ◌∙◌, subst, inl, inr, ⊎_elim, arith}
-use Rattle.std.proofs.lemmas.Bool.{eq-eqb, eqb-true, and_parts, and_from, or_left, or_cases, both_ways}
-use Rattle.tree.specs.Nodes.{Node, Laws, count, label_at}
-use Rattle.tree.specs.Paths.{parent, member, met, admits, passes, reached, chosen, select, follow, selects, root, Below, direct, above}
-use Rattle.tree.specs.XPath.{ChildOf, DescendantOf, child, further, DescendantOrSelf, Passes, AxisOf, StepOf, Located, Both, StepsAreXPath, QuestionsAreXPath}
+use Rattle.std.proofs.Common.{◌≡◌, ℕ, ◌≤◌, true, false, eqb, List, [], ◌∷◌, sym, refl, ◌∙◌, subst, inl, inr, ⊎_elim, arith}
+use Rattle.std.proofs.lemmas.Bool.{eq-eqb, eqb-true, and_parts, and_from, or_cases, both_ways}
+use Rattle.tree.specs.Nodes.{Node, count, label_at}
+use Rattle.tree.specs.Paths.{parent, member, passes, reached, chosen, select, follow, root, Below, direct, above}
+use Rattle.tree.specs.XPath.{ChildOf, DescendantOf, child, further, DescendantOrSelf, Passes, AxisOf, StepOf, Located, StepsAreXPath, QuestionsAreXPath}
 use Rattle.tree.specs.declared.step.Axis.{Axis}
 use Rattle.tree.specs.declared.step.Axis.TheVariants.{Child, Descendant}
 use Rattle.tree.specs.declared.step.Test.{Test}

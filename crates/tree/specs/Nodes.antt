@@ -3,7 +3,7 @@
 --     Laws limit ns       ns are a tree of at most limit nodes
 --     lawful limit ns     the same as a test, for the invariants of types
 --     node_limit          the limit of this version
-use Rattle.std.specs.Prelude.{◌≡◌, ℕ, zero, suc, ◌+◌, ◌<◌, ◌≤◌, Bool, true, false, ◌&&◌, List, [], ◌∷◌, length, nat_le, nat_lt, slice_index_or}
+use Rattle.std.specs.Prelude.{◌≡◌, ℕ, zero, suc, ◌+◌, ◌<◌, ◌≤◌, Bool, true, ◌&&◌, List, [], ◌∷◌, length, nat_le, nat_lt, slice_index_or}
 use Rattle.tree.specs.declared.node.Node.{Node as Entry}
 
 abbrev pub Node : Type 0

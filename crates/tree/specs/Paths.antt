@@ -1,5 +1,5 @@
 -- Parents, what lies below what, and the nodes that a step and a question select.
-use Rattle.std.specs.Prelude.{◌≡◌, ℕ, zero, suc, pred, ◌+◌, ◌<◌, ◌≤◌, Bool, true, false, ◌&&◌, ◌||◌, List, [], ◌∷◌, ◌++◌, filter, ◌==◌}
+use Rattle.std.specs.Prelude.{◌≡◌, ℕ, zero, suc, pred, ◌≤◌, Bool, true, false, ◌&&◌, ◌||◌, List, [], ◌∷◌, filter, ◌==◌}
 use Rattle.tree.specs.Nodes.{Node, depth_at, label_at, count}
 use Rattle.tree.specs.declared.step.Axis.{Axis}
 use Rattle.tree.specs.declared.step.Axis.TheVariants.{Child, Descendant}

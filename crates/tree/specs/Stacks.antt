@@ -4,7 +4,7 @@
 --     Pushed s x r t      a push of x onto s answers r and leaves t
 --     Popped xs r ys      a pop off the items xs answers r and leaves ys
 --     Topped xs r         r is the top of the items xs
-use Rattle.std.specs.Prelude.{◌≡◌, ℕ, ◌<◌, ◌≤◌, List, [], ◌∷◌, reverse, length, take, drop, Some, None, Ok, Err, Option, Result, slice_set}
+use Rattle.std.specs.Prelude.{◌≡◌, ◌<◌, List, [], ◌∷◌, reverse, length, take, drop, Some, None, Ok, Err, Option, Result, slice_set}
 use Rattle.tree.specs.declared.stack.Stack.{Stack}
 
 abbrev pub lent : {T : Type 0} → Stack T → List T

@@ -1,7 +1,7 @@
 -- What setting a table does. Assumes nothing.
 --     shown t                 the slots that the table t shows
 --     Sets new old r after    setting a table that shows `old` to the slots `new` answers r, and it then shows `after`
-use Rattle.std.specs.Prelude.{◌≡◌, ℕ, zero, suc, ◌<◌, ◌≤◌, Bool, true, false, List, [], ◌∷◌, length, Ok, Err, Result}
+use Rattle.std.specs.Prelude.{◌≡◌, ℕ, zero, suc, ◌≤◌, List, length, Ok, Err, Result}
 use Rattle.tree.specs.Nodes.{Laws, node_limit}
 use Rattle.tree.specs.Laws.{FirstWrong}
 use Rattle.tree.specs.Slots.{numbered}

@@ -1,10 +1,10 @@
 -- The marks of a node follow from those of its parent.
-use Rattle.std.proofs.Common.{◌≡◌, ℕ, zero, suc, ◌+◌, ◌-◌, ◌<◌, ◌≤◌, Bool, true, false, cond, ◌&&◌, ◌||◌, eqb, ◌⊎◌, List, [], ◌∷◌, ◌++◌, length, get_or, take, filter, sym, refl, ap, ◌∙◌, subst, ap₂, inl, inr, ⊎_elim, add-one, arith}
+use Rattle.std.proofs.Common.{◌≡◌, ℕ, zero, suc, ◌<◌, ◌≤◌, Bool, true, false, ◌&&◌, ◌||◌, List, [], ◌∷◌, ◌++◌, length, get_or, take, sym, refl, ap, ◌∙◌, ap₂, add-one, arith}
 use lib.Bits.{bit_or}
 use Rattle.std.proofs.lemmas.List.{take_more}
-use Rattle.std.proofs.lemmas.Bool.{eq-eqb, ne_eqb, cases_order, or_left}
+use Rattle.std.proofs.lemmas.Bool.{ne_eqb}
 use Rattle.tree.specs.Nodes.{Node, count, label_at}
-use Rattle.tree.specs.Paths.{numbers, parent, member, met, admits, reached, chosen, select, follow, selects, root}
+use Rattle.tree.specs.Paths.{parent, member, admits, reached, chosen, select, follow, selects, root}
 use Rattle.tree.proofs.Paths.{met_up, member_in, member_out}
 use Rattle.tree.specs.declared.step.Axis.{Axis}
 use Rattle.tree.specs.declared.step.Axis.TheVariants.{Child, Descendant}

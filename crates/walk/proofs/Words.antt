@@ -1,9 +1,8 @@
 -- A word is built from its highest bit down.
-use Rattle.std.proofs.Common.{◌≡◌, ℕ, zero, suc, ◌+◌, ◌-◌, ◌*◌, ◌/◌, ◌%◌, ◌^◌, ◌<◌, ◌≤◌, Bool, true, false, cond, ◌&&◌, ◌||◌, eqb, List, [], ◌∷◌, length, get_or, sym, refl, ap, ◌∙◌, subst, arith}
+use Rattle.std.proofs.Common.{◌≡◌, ℕ, zero, suc, ◌+◌, ◌-◌, ◌*◌, ◌/◌, ◌%◌, ◌^◌, ◌<◌, ◌≤◌, Bool, true, false, cond, ◌||◌, eqb, List, length, get_or, sym, refl, ap, ◌∙◌, subst, arith}
 use Rattle.std.proofs.lemmas.Nat.{shr-shr, pow_pos, pow-add, or_shr, or_mod}
 use lib.Bits.{bit_or}
 use native.Mathlib.Nat.{pow-succ', div-eq_of_lt}
-use Rattle.std.proofs.lemmas.Bool.{cond-true}
 use Rattle.tree.specs.declared.step.Step.{Step}
 use Rattle.walk.specs.declared.marks.Marks.{Marks}
 use Rattle.walk.specs.Marks.{bit, hit, any_step}

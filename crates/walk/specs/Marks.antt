@@ -1,7 +1,7 @@
 -- Words of marks. Assumes nothing.
 --     bit w i          bit i of the word w
 --     hit s i p l      a node with label l below one with marks p ends i + 1 steps, the last of which is s
-use Rattle.std.specs.Prelude.{◌≡◌, ℕ, zero, suc, ◌+◌, ◌/◌, ◌%◌, ◌^◌, ◌<◌, ◌≤◌, Bool, true, false, ◌&&◌, ◌||◌, List, [], ◌∷◌, length, take, ◌==◌}
+use Rattle.std.specs.Prelude.{◌≡◌, ℕ, ◌/◌, ◌%◌, ◌^◌, ◌≤◌, Bool, ◌&&◌, ◌||◌, List, length, take, ◌==◌}
 use Rattle.tree.specs.Nodes.{Node}
 use Rattle.tree.specs.Paths.{admits, member, met, selects}
 use Rattle.tree.specs.declared.step.Axis.{Axis}

@@ -1,5 +1,5 @@
 -- Names numbered as they appear among the nodes of a tree, one node after another.
-use Rattle.std.proofs.Common.{◌≡◌, ℕ, zero, suc, ◌+◌, ◌-◌, ◌<◌, ◌≤◌, Bool, true, false, cond, ltb, ◌≢◌, ◌⊎◌, List, [], ◌∷◌, ◌++◌, map, length, get_or, take, set, replicate, Some, None, sym, refl, ap, ◌∙◌, subst, inl, inr, ⊎_elim, add-one, arith}
+use Rattle.std.proofs.Common.{◌≡◌, ℕ, zero, suc, ◌+◌, ◌-◌, ◌<◌, ◌≤◌, ltb, List, [], ◌∷◌, ◌++◌, length, get_or, take, set, replicate, Some, None, sym, ap, ◌∙◌, subst, ⊎_elim, arith}
 use lib.ListN.{length-map}
 use Rattle.std.specs.List.{AllByRecursion as All}
 use Rattle.std.proofs.ByRecursion.{All-push, All-get_or, All-weaker}
@@ -9,7 +9,7 @@ use Rattle.names.specs.Lists.{before, number_of, with_name, IsNameList}
 use Rattle.names.specs.NameLists.{named}
 use Rattle.names.proofs.Found.{none_some, some_same, cond_some}
 use Rattle.names.proofs.Firsts.{with_known, with_new, firsts_push, number_new, number_other, first_names_few}
-use Rattle.names.proofs.Names.{number_some, number_none, named_some, named_none}
+use Rattle.names.proofs.Names.{number_some, number_none, named_some}
 use Rattle.tree.specs.Nodes.{Node, nowhere, count, node_at, label_at}
 use Rattle.tree.proofs.Slots.{take_next}
 use Rattle.stored.specs.Plans.{Named, name_at, named_by, plan_of, names_of}

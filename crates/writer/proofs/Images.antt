@@ -8,7 +8,7 @@ use Rattle.tree.specs.Nodes.{Node, Laws, nowhere, node_limit}
 use Rattle.tree.specs.Laws.{laws_chain}
 use Rattle.stored.specs.declared.fault.WriteFault.TheVariants.{Short}
 use Rattle.stored.specs.Bytes.{two, four}
-use Rattle.stored.specs.Plans.{name_at, named_by, plan_of, names_of, nodes_by, Storable}
+use Rattle.stored.specs.Plans.{name_at, named_by, plan_of, names_of, nodes_by}
 use Rattle.stored.specs.Images.{name_field, node_field, image}
 use Rattle.stored.proofs.Storable.{Borne, chain_borne, trees_are_plans}
 use Rattle.stored.proofs.Turns.{length_by}

@@ -2,7 +2,7 @@
 use Rattle.std.proofs.Common.{◌≡◌, ℕ, ◌+◌, ◌*◌, ◌<◌, ◌≤◌, List, [], ◌∷◌, ◌++◌, length, get_or, take, sym, refl, ap, ◌∙◌, add-one, arith}
 use Rattle.std.specs.List.{flat_map, AllByRecursion as All}
 use Rattle.std.proofs.ByRecursion.{All-get_or}
-use Rattle.std.proofs.lemmas.List.{flat_map_more, length-take-le, take_all}
+use Rattle.std.proofs.lemmas.List.{flat_map_more, length-take-le}
 use Rattle.tree.specs.Nodes.{Node, Laws, nowhere, count, node_at, label_at, depth_at}
 use Rattle.tree.specs.Laws.{laws_follow}
 use Rattle.tree.proofs.Slots.{take_next}

@@ -1,12 +1,12 @@
 -- Trees that are the same plan, and their images.
-use Rattle.std.proofs.Common.{◌≡◌, ℕ, zero, suc, ◌<◌, ◌≤◌, ◌⊎◌, List, [], ◌∷◌, ◌++◌, map, length, get_or, take, drop, Ok, Err, Result, sym, refl, ap, ◌∙◌, subst, ap₂, inl, inr, ⊎_elim, arith}
+use Rattle.std.proofs.Common.{◌≡◌, ℕ, zero, suc, ◌<◌, ◌≤◌, List, [], ◌∷◌, map, length, get_or, take, drop, Ok, Err, Result, sym, refl, ap, ◌∙◌, subst, ⊎_elim, arith}
 use lib.ListN.{length-map}
 use Rattle.std.proofs.ByRecursion.{All-get_or}
 use Rattle.std.proofs.lemmas.List.{get_or-map, get_or_past, ext_get_or, take_at}
 use Rattle.std.proofs.lemmas.Bool.{cases_lt}
-use Rattle.names.specs.Lists.{before, number_of, IsNameList}
+use Rattle.names.specs.Lists.{before, number_of}
 use Rattle.names.proofs.Names.{number_some, number_none}
-use Rattle.tree.specs.Nodes.{Node, Laws, nowhere, node_limit, count, node_at, label_at, depth_at}
+use Rattle.tree.specs.Nodes.{Node, nowhere, node_at, label_at, depth_at}
 use Rattle.tree.specs.XPath.{Both}
 use Rattle.stored.specs.declared.fault.ImageFault.{ImageFault}
 use Rattle.stored.specs.declared.fault.WriteFault.{WriteFault}

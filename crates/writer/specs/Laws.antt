@@ -1,7 +1,7 @@
 -- What opening and writing are to one another. `Opens` and `Writes` are what the contracts of the two calls say. Assumes nothing.
 use Rattle.std.specs.Prelude.{◌≡◌, ℕ, ◌<◌, ◌≤◌, List, length, take, Ok, Err, Result}
 use Rattle.names.specs.Lists.{IsNameList}
-use Rattle.tree.specs.Nodes.{Node, Laws, node_limit, count, label_at, depth_at}
+use Rattle.tree.specs.Nodes.{Laws, node_limit, count, label_at, depth_at}
 use Rattle.tree.specs.XPath.{Both}
 use Rattle.stored.specs.declared.fault.ImageFault.{ImageFault}
 use Rattle.stored.specs.declared.fault.WriteFault.{WriteFault}

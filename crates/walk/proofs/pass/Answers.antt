@@ -1,4 +1,4 @@
-use Rattle.std.proofs.Common.{◌≡◌, ℕ, ◌+◌, ◌-◌, ◌≤◌, List, [], ◌∷◌, ◌++◌, map, length, drop, set, sym, ap, ◌∙◌, subst, arith}
+use Rattle.std.proofs.Common.{◌≡◌, ℕ, ◌+◌, List, [], ◌∷◌, ◌++◌, map, length, drop, set, sym, ap, ◌∙◌, subst, arith}
 use Rattle.tree.specs.Nodes.{count, origin_at}
 use Rattle.tree.specs.Stacks.{items, lent}
 use Rattle.tree.proofs.Stacks.{pushed, pushed_lent}

@@ -1,4 +1,4 @@
-use Rattle.std.proofs.Common.{◌≡◌, ℕ, Bool, cond, sym, refl, ap, ◌∙◌, arith}
+use Rattle.std.proofs.Common.{Bool, cond, ap, ◌∙◌, arith}
 use Rattle.walk.proofs.Words.{built_more, double_low, double_high}
 use Rattle.walk.proofs.word.Goals as goal
 use Rattle.walk.proofs.word.Goals.{then-ends, else-ends}

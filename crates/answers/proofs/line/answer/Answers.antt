@@ -1,7 +1,6 @@
-use Rattle.std.proofs.Common.{◌≡◌, ℕ, List, IfOk, string_bytes, Result, sym, ap, ◌∙◌, subst}
+use Rattle.std.proofs.Common.{◌≡◌, ℕ, List, IfOk, string_bytes, ap, ◌∙◌, subst}
 use Rattle.names.specs.NameLists.{listed}
-use Rattle.path.specs.Questions.{step_room, answer, steps_read}
-use Rattle.path.specs.declared.fault.QuestionFault.{QuestionFault}
+use Rattle.path.specs.Questions.{step_room, steps_read}
 use Rattle.path.proofs.Readings.{steps_answered}
 use Rattle.tree.specs.declared.step.Step.{Step}
 use Rattle.walk.specs.Walks.{origins}

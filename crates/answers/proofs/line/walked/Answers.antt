@@ -1,4 +1,4 @@
-use Rattle.std.proofs.Common.{◌≡◌, ℕ, List, IfOk, string_bytes, subst, arith}
+use Rattle.std.proofs.Common.{◌≡◌, ℕ, List, IfOk, string_bytes, subst}
 use Rattle.walk.proofs.Picks.{never_refused}
 use Rattle.answers.specs.Lines.{nodes_line}
 use Rattle.answers.proofs.Lines.{part}

@@ -1,4 +1,4 @@
-use Rattle.std.proofs.Common.{◌≡◌, ℕ, ◌-◌, sym, ap, ◌∙◌, arith}
+use Rattle.std.proofs.Common.{ℕ, ◌-◌, sym, ap, ◌∙◌, arith}
 use Rattle.stored.specs.Openings.{nodes_at}
 use Rattle.image.proofs.Fronts.{nodes_stop, nodes_wrong, nodes_next}
 use Rattle.image.proofs.fields.pass_nodes.Goals as goal

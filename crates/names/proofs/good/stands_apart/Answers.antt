@@ -1,4 +1,4 @@
-use Rattle.std.proofs.Common.{◌≡◌, ℕ, Bool, ◌&&◌, eqb, length, sym, ap, ◌∙◌, ap₂}
+use Rattle.std.proofs.Common.{ℕ, Bool, ◌&&◌, eqb, length, sym, ap, ◌∙◌, ap₂}
 use lib.ListN.{length-map}
 use Rattle.names.specs.Lists.{texts, before}
 use Rattle.names.proofs.good.stands_apart.Goals as goal

@@ -1,4 +1,4 @@
-use Rattle.std.proofs.Common.{◌≡◌, ℕ, ◌-◌, length, take, sym, ap, ◌∙◌, arith}
+use Rattle.std.proofs.Common.{◌≡◌, ◌-◌, length, take, ap, ◌∙◌, arith}
 use Rattle.names.specs.Bytes.{name_byte}
 use Rattle.names.specs.Words.{after}
 use Rattle.names.proofs.Runs.{after_le, front_is}

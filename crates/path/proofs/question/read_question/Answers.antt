@@ -1,8 +1,8 @@
-use Rattle.std.proofs.Common.{◌≡◌, ℕ, ◌-◌, ◌<◌, ◌≤◌, length, Ok, Err, sym, refl, ap, ◌∙◌, inl, inr, ⊎_elim, arith}
+use Rattle.std.proofs.Common.{◌<◌, Ok, sym, refl, ap, inl, inr, ⊎_elim, arith}
 use Rattle.names.specs.NameLists.{listed}
 use Rattle.path.specs.Questions.{at_end, no_step, enough}
 use Rattle.path.proofs.Wordings.{step_shorter}
-use Rattle.path.proofs.Loops.{step_told, no_step_told, nothing_yet, one_more, done, stops_at_end, stops_no_step, stops_enough, wrong_told}
+use Rattle.path.proofs.Loops.{step_told, no_step_told, one_more, done, stops_at_end, stops_no_step, stops_enough, wrong_told}
 use Rattle.path.proofs.question.read_question.Goals as goal
 
 pub returns-then-text-eq0 : goal.returns-then-text-eq0

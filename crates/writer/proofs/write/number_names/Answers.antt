@@ -1,4 +1,4 @@
-use Rattle.std.proofs.Common.{◌≡◌, ℕ, ◌+◌, ◌-◌, ◌≤◌, sym, ap, ◌∙◌, subst, arith}
+use Rattle.std.proofs.Common.{◌-◌, subst, arith}
 use Rattle.names.specs.NameLists.{listed}
 use Rattle.names.proofs.Names.{list_to}
 use Rattle.tree.specs.Nodes.{node_limit}

@@ -1,18 +1,17 @@
-use Rattle.std.proofs.Common.{◌≡◌, ℕ, ◌+◌, ◌-◌, ◌*◌, ◌≤◌, List, [], ◌∷◌, ◌++◌, length, take, sym, refl, ap, ◌∙◌, subst, ap₂, arith, rules}
+use Rattle.std.proofs.Common.{◌≡◌, ℕ, ◌+◌, ◌-◌, List, [], ◌∷◌, ◌++◌, length, sym, ap, ◌∙◌, ap₂, arith, rules}
 use lib.ListN.{length-map}
 use Rattle.std.specs.List.{flat_map}
-use Rattle.std.proofs.lemmas.List.{length-take-le}
 use Rattle.names.specs.Lists.{texts}
 use Rattle.stored.specs.Bytes.{two, four}
 use Rattle.stored.specs.Images.{name_field}
 use Rattle.stored.proofs.Openings.{length_names}
 use Rattle.writer.specs.Numberings.{ordered}
 use Rattle.writer.specs.Overwrites.{overwritten}
-use Rattle.writer.specs.Writings.{numbered_field, numbered_body, numbered_image}
+use Rattle.writer.specs.Writings.{numbered_field, numbered_body}
 use Rattle.writer.proofs.Appearances.{ordered_long}
 use Rattle.writer.proofs.Images.{body_long, six_parts}
 use Rattle.writer.proofs.NodeFields.{length_fields}
-use Rattle.writer.proofs.Overwrites.{Laid, laid_none, laid_more}
+use Rattle.writer.proofs.Overwrites.{laid_none, laid_more}
 use Rattle.writer.proofs.write.write_all.Goals as goal
 
 pub overflow_cast-body : goal.overflow_cast-body

@@ -1,11 +1,11 @@
-use Rattle.std.proofs.Common.{◌≡◌, ℕ, ◌+◌, ◌-◌, ◌≤◌, List, [], ◌∷◌, ◌++◌, length, get_or, take, ap, ◌∙◌, subst, ap₂, arith, rules}
+use Rattle.std.proofs.Common.{◌≡◌, ℕ, ◌+◌, ◌-◌, ◌≤◌, List, [], ◌∷◌, ◌++◌, length, get_or, take, ap, ◌∙◌, subst, ap₂, arith}
 use Rattle.std.specs.List.{flat_map}
 use Rattle.std.proofs.lemmas.List.{take_all}
 use Rattle.tree.specs.Nodes.{node_at, node_limit}
 use Rattle.stored.specs.Bytes.{two}
 use Rattle.writer.specs.Overwrites.{overwritten}
 use Rattle.writer.specs.Writings.{numbered_field}
-use Rattle.writer.proofs.NodeFields.{length_fields, fields_more, front_long, label_most, label_some, depth_most}
+use Rattle.writer.proofs.NodeFields.{length_fields, fields_more, front_long, label_most, label_some}
 use Rattle.writer.proofs.Overwrites.{Laid, laid_none, laid_more}
 use Rattle.writer.proofs.write.write_nodes.Goals as goal
 

@@ -1,10 +1,9 @@
-use Rattle.std.proofs.Common.{◌≡◌, ℕ, ◌-◌, List, take, sym, ap, subst, arith}
+use Rattle.std.proofs.Common.{◌≡◌, ℕ, ◌-◌, take, subst, arith}
 use Rattle.names.specs.Lists.{IsNameList, texts}
 use Rattle.names.proofs.Names.{set_holds}
 use Rattle.tree.specs.Nodes.{Laws, node_limit}
 use Rattle.tree.specs.Slots.{numbered}
 use Rattle.tree.proofs.Slots.{set_shows}
-use Rattle.plan.specs.Plans.{outcome, room}
 use Rattle.answers.proofs.Openings.{opened}
 use Rattle.answers.proofs.opened.Plan.open.Goals as goal
 

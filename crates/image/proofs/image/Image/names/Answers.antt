@@ -1,4 +1,4 @@
-use Rattle.std.proofs.Common.{◌≡◌, ℕ, ◌-◌, List, take, sym, ap, ◌∙◌, subst, arith}
+use Rattle.std.proofs.Common.{◌≡◌, ℕ, ◌-◌, take, sym, ap, ◌∙◌, subst, arith}
 use Rattle.names.specs.Lists.{IsNameList, texts}
 use Rattle.names.proofs.Names.{set_holds}
 use Rattle.image.proofs.Opened.{readable_names, slots_named}

@@ -1,8 +1,6 @@
-use Rattle.std.proofs.Common.{◌≡◌, ℕ, List, [], take, Ok, Err, sym, refl, ap, ◌∙◌, subst, arith}
+use Rattle.std.proofs.Common.{ℕ, Err, sym, ap, ◌∙◌, arith}
 use Rattle.std.proofs.lemmas.Result.{err_from_is_err_and}
-use Rattle.names.specs.Lists.{texts}
 use Rattle.stored.specs.declared.fault.ImageFault.TheVariants.{Name, Node}
-use Rattle.stored.specs.Openings.{nodes_in}
 use Rattle.stored.proofs.Openings.{opened_are_images}
 use Rattle.image.proofs.Opened.{refused, refused_as, header_wrong, count_wrong, few, name_wrong, name_near, are_readable, node_wrong, node_near, all_opened, are_lawful}
 use Rattle.image.proofs.image.Image.open.Goals as goal

@@ -1,6 +1,6 @@
-use Rattle.std.proofs.Common.{◌≡◌, ℕ, ◌+◌, ◌<◌, ◌≤◌, length, sym, ap, ◌∙◌, subst, arith, rules}
+use Rattle.std.proofs.Common.{◌≡◌, ◌+◌, length, sym, ap, ◌∙◌, subst, arith, rules}
 use lib.ListN.{length-map}
-use Rattle.names.specs.Lists.{texts, before, Numbered}
+use Rattle.names.specs.Lists.{texts, Numbered}
 use Rattle.names.proofs.Names.{list_to, numbered, number_some, number_none}
 use Rattle.names.proofs.list.NameList.number.Goals as goal
 

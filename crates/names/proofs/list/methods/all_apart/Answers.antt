@@ -1,4 +1,4 @@
-use Rattle.std.proofs.Common.{◌≡◌, sym, ◌∙◌, arith, ltb-false, ltb-true}
+use Rattle.std.proofs.Common.{◌∙◌, arith, ltb-false, ltb-true}
 use Rattle.names.proofs.Names.{apart_no, apart_yes, apart_end}
 use Rattle.names.proofs.list.methods.all_apart.Goals as goal
 

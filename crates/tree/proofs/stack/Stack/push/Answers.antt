@@ -1,4 +1,4 @@
-use Rattle.std.proofs.Common.{◌≡◌, ℕ, set, sym, refl, ap, ◌∙◌, arith}
+use Rattle.std.proofs.Common.{ℕ, set, sym, refl, ap, ◌∙◌, arith}
 use Rattle.tree.proofs.Stacks.{length_items, items_set}
 use Rattle.tree.proofs.stack.Stack.push.Goals as goal
 

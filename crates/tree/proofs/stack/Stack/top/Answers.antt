@@ -1,4 +1,4 @@
-use Rattle.std.proofs.Common.{◌≡◌, ◌-◌, List, ◌∷◌, reverse, take, drop, sym, ap, ◌∙◌, arith}
+use Rattle.std.proofs.Common.{◌-◌, ◌∷◌, reverse, take, sym, ap, ◌∙◌, arith}
 use Rattle.tree.proofs.Stacks.{items_top, cons_drop}
 use Rattle.tree.proofs.stack.Stack.top.Goals as goal
 

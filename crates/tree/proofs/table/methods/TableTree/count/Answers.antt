@@ -1,4 +1,4 @@
-use Rattle.std.proofs.Common.{sym, arith, rules}
+use Rattle.std.proofs.Common.{sym, rules}
 use Rattle.tree.specs.Nodes.{node_limit}
 use Rattle.tree.specs.Slots.{numbered}
 use Rattle.tree.specs.Laws.{lawful_laws}
