@@ -1,6 +1,6 @@
 -- Names in the order of their first appearance.
 use Rattle.std.proofs.Common.{◌≡◌, ℕ, suc, ◌+◌, ◌<◌, ◌≤◌, Bool, true, false, cond, ltb, ◌⊎◌, List, [], ◌∷◌, ◌++◌, length, get_or, Decides, fold, sym, refl, ap, ◌∙◌, subst, inl, inr, ⊎_elim, append_assoc, append-nil, arith, length-append}
-use Rattle.std.specs.List.{AllByRecursion as All}
+use Rattle.std.specs.List.{AllByRecursion}
 use Rattle.std.specs.Str.{bytes_eq}
 use Rattle.std.proofs.ByRecursion.{All-push}
 use Rattle.std.proofs.lemmas.Slice.Eq.{bytes_eq-Decides}
@@ -56,7 +56,7 @@ distinct_new n ms new d i j a b e =
 
 -- names that are short and distinct
 pub record Good (ms : List (List ℕ)) : Type 0 where
-  pub names : All ShortName ms
+  pub names : AllByRecursion ShortName ms
   pub distinct : Distinct ms
 
 pub good_none : Good []
@@ -147,7 +147,7 @@ absent_none : (ms : List (List ℕ)) → absent [] ms ≡ length ms
 absent_none [] = refl
 absent_none (m ∷ ms) = ap suc (absent_none ms)
 
-few_firsts : {X : Type 0} (f : X → List ℕ) (seen ms : List (List ℕ)) (xs : List X) → All (λ x. before (f x) ms < length ms) xs → length seen + absent seen ms ≤ length ms → length (fold (λ ns x. with_name (f x) ns) seen xs) ≤ length ms
+few_firsts : {X : Type 0} (f : X → List ℕ) (seen ms : List (List ℕ)) (xs : List X) → AllByRecursion (λ x. before (f x) ms < length ms) xs → length seen + absent seen ms ≤ length ms → length (fold (λ ns x. with_name (f x) ns) seen xs) ≤ length ms
 few_firsts f seen ms [] a h = omega arith
 few_firsts f seen ms (x ∷ xs) a h =
     few_firsts f (with_name (f x) seen) ms xs a.1
@@ -157,7 +157,7 @@ few_firsts f seen ms (x ∷ xs) a h =
     (cases_lt (before (f x) seen) (length seen)))
 
 -- names that are all among ms are no more than ms
-pub first_names_few : {X : Type 0} (f : X → List ℕ) (ms : List (List ℕ)) (xs : List X) → All (λ x. before (f x) ms < length ms) xs → length (first_names f xs) ≤ length ms
+pub first_names_few : {X : Type 0} (f : X → List ℕ) (ms : List (List ℕ)) (xs : List X) → AllByRecursion (λ x. before (f x) ms < length ms) xs → length (first_names f xs) ≤ length ms
 first_names_few f ms xs a = few_firsts f [] ms xs a (omega (arith, absent_none ms))
 
 -- more names come behind those that are there
@@ -168,7 +168,7 @@ firsts_more f seen (x ∷ xs) =
     let b = firsts_more f (with_name (f x) seen) xs in
     (a.0 ++ b.0, b.1 ∙ ap (λ (z : List (List ℕ)). z ++ b.0) a.1 ∙ append_assoc seen a.0 b.0)
 
-pub good_firsts : {X : Type 0} (f : X → List ℕ) (seen : List (List ℕ)) (xs : List X) → All (λ x. ShortName (f x)) xs → Good seen → Good (fold (λ ns x. with_name (f x) ns) seen xs)
+pub good_firsts : {X : Type 0} (f : X → List ℕ) (seen : List (List ℕ)) (xs : List X) → AllByRecursion (λ x. ShortName (f x)) xs → Good seen → Good (fold (λ ns x. with_name (f x) ns) seen xs)
 good_firsts f seen [] a g = g
 good_firsts f seen (x ∷ xs) a g = good_firsts f (with_name (f x) seen) xs a.1 (good_with (f x) seen a.0 g)
 

@@ -1,6 +1,6 @@
 -- The test of a name list and what it stands for.
 use Rattle.std.proofs.Common.{◌≡◌, ℕ, zero, suc, ◌+◌, ◌-◌, ◌<◌, ◌≤◌, Bool, true, false, cond, ◌&&◌, eqb, ltb, leb, ◌⊎◌, List, [], ◌∷◌, length, get_or, take, drop, Some, None, Ok, Err, Result, sym, refl, ap, ◌∙◌, subst, inl, inr, ⊎_elim, add-one, arith, Bor}
-use Rattle.std.specs.List.{AllByRecursion as All}
+use Rattle.std.specs.List.{AllByRecursion}
 use Rattle.std.specs.Str.{bytes_eq}
 use Rattle.std.proofs.lemmas.List.{take_rest}
 use Rattle.std.proofs.lemmas.Slice.Eq.{bytes_eq-Decides}
@@ -17,11 +17,11 @@ pub all_in_after : (p : ℕ → Bool) (w : List ℕ) → all_in p w ≡ eqb (len
 all_in_after p [] = refl
 all_in_after p (b ∷ w) = elim (p b) as (λ v. (v && all_in p w) ≡ eqb (length (cond v (after p w) (b ∷ w))) 0) [ true ↦ all_in_after p w | false ↦ sym (ne_eqb (suc (length w)) 0 (λ e. omega arith)) ]
 
-all_in_to : (p : ℕ → Bool) (w : List ℕ) → all_in p w ≡ true → All (λ b. p b ≡ true) w
+all_in_to : (p : ℕ → Bool) (w : List ℕ) → all_in p w ≡ true → AllByRecursion (λ b. p b ≡ true) w
 all_in_to p [] h = tt
 all_in_to p (b ∷ w) h = let s = and_parts (p b) (all_in p w) h in (s.0, all_in_to p w s.1)
 
-all_in_from : (p : ℕ → Bool) (w : List ℕ) → All (λ b. p b ≡ true) w → all_in p w ≡ true
+all_in_from : (p : ℕ → Bool) (w : List ℕ) → AllByRecursion (λ b. p b ≡ true) w → all_in p w ≡ true
 all_in_from p [] h = refl
 all_in_from p (b ∷ w) h = and_from (p b) (all_in p w) h.0 (all_in_from p w h.1)
 
@@ -70,7 +70,7 @@ pub before_first : (n : List ℕ) (ms : List (List ℕ)) (k : ℕ) → k < lengt
 before_first n [] k l e = absurd (omega arith)
 before_first n (m ∷ ms) k l e = not_from m n ms (bytes_eq m n) refl (before_first n ms) k l e
 
-apart_all : (ms : List (List ℕ)) → apart ms ≡ true → All ShortName ms
+apart_all : (ms : List (List ℕ)) → apart ms ≡ true → AllByRecursion ShortName ms
 apart_all [] h = tt
 apart_all (m ∷ ms) h =
     let s = and_parts (good_beside m ms) (apart ms) h in
@@ -84,7 +84,7 @@ apart_distinct (m ∷ ms) h zero (suc j) a b e =
     omega (arith, (good_to m ms s.0).1, before_first m ms j (omega arith) (sym e))
 apart_distinct (m ∷ ms) h (suc i) (suc j) a b e = apart_distinct ms (and_parts (good_beside m ms) (apart ms) h).1 i j (omega arith) (omega arith) e
 
-apart_from : (ms : List (List ℕ)) → All ShortName ms → ((i j : ℕ) → i < j → j < length ms → get_or ms i [] ≡ get_or ms j [] → ⊥) → apart ms ≡ true
+apart_from : (ms : List (List ℕ)) → AllByRecursion ShortName ms → ((i j : ℕ) → i < j → j < length ms → get_or ms i [] ≡ get_or ms j [] → ⊥) → apart ms ≡ true
 apart_from [] a d = refl
 apart_from (m ∷ ms) a d =
     let none : before m ms ≡ length ms = ⊎_elim

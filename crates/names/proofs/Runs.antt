@@ -1,7 +1,7 @@
 -- The longest run of bytes at the front of a text.
 use Rattle.std.proofs.Common.{◌≡◌, ℕ, ◌-◌, ◌<◌, ◌≤◌, Bool, true, false, cond, List, [], ◌∷◌, ◌++◌, length, get_or, take, drop, sym, refl, ap, ◌∙◌, arith, length-append}
 use Rattle.std.proofs.lemmas.List.{take_rest, take_at}
-use Rattle.std.specs.List.{AllByRecursion as All}
+use Rattle.std.specs.List.{AllByRecursion}
 use Rattle.std.proofs.lemmas.Bool.{cond-true, cond-false}
 use Rattle.names.specs.Words.{after, front, begins}
 
@@ -63,11 +63,11 @@ pub with_two : (s : List ℕ) (a b : ℕ) → 2 ≤ length s → get_or s 0 0 �
 with_two s a b h p q = two_and_rest s h ∙ ap (λ z. z ∷ get_or s 1 0 ∷ take (length s - 2) (drop 2 s)) p ∙ ap (λ z. a ∷ z ∷ take (length s - 2) (drop 2 s)) q
 
 -- a run passes, and what follows it does not go on
-pub all_front : (p : ℕ → Bool) (s : List ℕ) → All (λ b. p b ≡ true) (front p s)
+pub all_front : (p : ℕ → Bool) (s : List ℕ) → AllByRecursion (λ b. p b ≡ true) (front p s)
 all_front p [] = tt
 all_front p (b ∷ s) = go (p b) refl (all_front p s)
   where
-    go : (c : Bool) → p b ≡ c → All (λ z. p z ≡ true) (front p s) → All (λ z. p z ≡ true) (cond c (b ∷ front p s) [])
+    go : (c : Bool) → p b ≡ c → AllByRecursion (λ z. p z ≡ true) (front p s) → AllByRecursion (λ z. p z ≡ true) (cond c (b ∷ front p s) [])
     go true e r = (e, r)
     go false e r = tt
 
@@ -80,12 +80,12 @@ begins_after p (b ∷ s) = go (p b) refl (begins_after p s)
     go false e r = e
 
 -- a run is the longest one if what follows does not go on with it
-pub after_append : (p : ℕ → Bool) (w r : List ℕ) → All (λ b. p b ≡ true) w → begins p r ≡ false → after p (w ++ r) ≡ r
+pub after_append : (p : ℕ → Bool) (w r : List ℕ) → AllByRecursion (λ b. p b ≡ true) w → begins p r ≡ false → after p (w ++ r) ≡ r
 after_append p [] [] a h = refl
 after_append p [] (b ∷ r) a h = cond-false (p b) (after p r) (b ∷ r) h
 after_append p (b ∷ w) r a h = cond-true (p b) (after p (w ++ r)) (b ∷ (w ++ r)) a.0 ∙ after_append p w r a.1 h
 
-pub front_append : (p : ℕ → Bool) (w r : List ℕ) → All (λ b. p b ≡ true) w → begins p r ≡ false → front p (w ++ r) ≡ w
+pub front_append : (p : ℕ → Bool) (w r : List ℕ) → AllByRecursion (λ b. p b ≡ true) w → begins p r ≡ false → front p (w ++ r) ≡ w
 front_append p [] [] a h = refl
 front_append p [] (b ∷ r) a h = cond-false (p b) (b ∷ front p r) [] h
 front_append p (b ∷ w) r a h = cond-true (p b) (b ∷ front p (w ++ r)) [] a.0 ∙ ap (λ (z : List ℕ). b ∷ z) (front_append p w r a.1 h)

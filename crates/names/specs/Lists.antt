@@ -8,7 +8,7 @@
 --     Numbered ms n r   r is the number of the name n among distinct names ms
 use Rattle.std.specs.Prelude.{◌≡◌, ℕ, zero, suc, ◌<◌, ◌≤◌, Bool, true, false, cond, ◌&&◌, List, [], ◌∷◌, ◌++◌, map, length, fold, ◌==◌, ◌≢◌, nat_le, nat_lt, slice_index_or}
 use Rattle.std.specs.Borrow.{Bor}
-use Rattle.std.specs.List.{AllByRecursion as All}
+use Rattle.std.specs.List.{AllByRecursion}
 use Rattle.std.specs.Str.{bytes_eq}
 use Rattle.names.specs.Bytes.{name_start, name_byte}
 use Rattle.names.specs.Words.{Word}
@@ -43,8 +43,8 @@ Distinct ms = (i j : ℕ) → i < j → j < length ms → slice_index_or ms i []
 
 pub record IsNameList (ms : List (List ℕ)) : Type 0 where
   pub most : length ms ≤ 512
-  pub names : All ShortName ms
-  pub distinct : Distinct ms
+  pub names : AllByRecursion ShortName ms
+  pub distinct : (i j : ℕ) → i < j → j < length ms → slice_index_or ms i [] ≢ slice_index_or ms j []
 
 abbrev pub all_in : (ℕ → Bool) → List ℕ → Bool
 all_in p [] = true

@@ -3,12 +3,12 @@
 --     front p s      the longest run of bytes at the front of s that pass the test p
 --     after p s      what follows it
 use Rattle.std.specs.Prelude.{◌≡◌, ℕ, Bool, true, false, cond, List, [], ◌∷◌}
-use Rattle.std.specs.List.{AllByRecursion as All}
+use Rattle.std.specs.List.{AllByRecursion}
 use Rattle.names.specs.Bytes.{name_start, name_byte}
 
 abbrev pub Word : List ℕ → Type 0
 Word [] = ⊥
-Word (b ∷ w) = (name_start b ≡ true) × All (λ c. name_byte c ≡ true) w
+Word (b ∷ w) = (name_start b ≡ true) × AllByRecursion (λ c. name_byte c ≡ true) w
 
 abbrev pub front : (ℕ → Bool) → List ℕ → List ℕ
 front p [] = []

@@ -1,6 +1,6 @@
 -- What reading a question text finds, and when a text is steps written one after another.
 use Rattle.std.proofs.Common.{◌≡◌, ℕ, zero, suc, ◌≤◌, Bool, false, ◌||◌, ltb, List, [], ◌∷◌, ◌++◌, map, length, Some, None, Ok, Err, Option, Result, sym, refl, ap, ◌∙◌, subst, arith}
-use Rattle.std.specs.List.{flat_map, AllByRecursion as All}
+use Rattle.std.specs.List.{flat_map, AllByRecursion}
 use Rattle.std.proofs.lemmas.List.{length-append, length-map}
 use Rattle.std.proofs.lemmas.Bool.{ne_eqb, le-ltb, cond-false}
 use Rattle.names.specs.Bytes.{name_byte}
@@ -48,7 +48,7 @@ longest_here : (t : WordTest) (ws : List Wording) → Longest t (flat_map writte
 longest_here star ws = tt
 longest_here (named n) ws = slash_first ws
 
-pub steps_written : (ws : List Wording) (s : List ℕ) → Steps [] ws s → All Good ws × (s ≡ flat_map written ws)
+pub steps_written : (ws : List Wording) (s : List ℕ) → Steps [] ws s → AllByRecursion Good ws × (s ≡ flat_map written ws)
 steps_written [] s none = (tt, refl)
 steps_written (w ∷ ws) s (more {t = t} b k) =
     let r = steps_written ws t k in
@@ -61,14 +61,14 @@ read_empty (suc c) = refl
 pub read_step : (c : ℕ) (s : List ℕ) (w : Wording) (r : List ℕ) → first_step s ≡ Some (w, r) → read_on (suc c) s ≡ behind (w ∷ []) (read_on c r)
 read_step c s w r e = ap (λ (o : Option (Wording × List ℕ)). elim o as (λ _. Reading) [ None ↦ stopped s (ending s) | Some p ↦ behind (p.0 ∷ []) (read_on c p.1) ]) e
 
-pub written_read : (c : ℕ) (ws : List Wording) (s : List ℕ) → length ws ≤ c → All Good ws → s ≡ flat_map written ws → read_on c s ≡ record { words = ws; rest = []; stop = at_end }
+pub written_read : (c : ℕ) (ws : List Wording) (s : List ℕ) → length ws ≤ c → AllByRecursion Good ws → s ≡ flat_map written ws → read_on c s ≡ record { words = ws; rest = []; stop = at_end }
 written_read c [] s l g e = ap (read_on c) e ∙ read_empty c
 written_read zero (w ∷ ws) s l g e = absurd (omega arith)
 written_read (suc c) (w ∷ ws) s l g e =
     read_step c s w (flat_map written ws) (step_complete s w (flat_map written ws) (record { is = e; good = g.0; longest = longest_here w.test ws }))
     ∙ ap (behind (w ∷ [])) (written_read c ws (flat_map written ws) (omega arith) g.1 refl)
 
-written_some : (ws : List Wording) (s : List ℕ) → 1 ≤ length ws → All Good ws → s ≡ flat_map written ws → 1 ≤ length s
+written_some : (ws : List Wording) (s : List ℕ) → 1 ≤ length ws → AllByRecursion Good ws → s ≡ flat_map written ws → 1 ≤ length s
 written_some [] s l g e = absurd (omega arith)
 written_some (w ∷ ws) s l g e =
     omega (arith, ap length e, length-append (written w) (flat_map written ws), length-append (slashes w.axis) (test_bytes w.test), test_some w.test w.axis g.0)

@@ -1,6 +1,6 @@
 -- The step that a text begins with: it is found exactly if it is there.
 use Rattle.std.proofs.Common.{◌≡◌, ℕ, ◌-◌, ◌<◌, ◌≤◌, Bool, true, false, cond, eqb, List, [], ◌∷◌, ◌++◌, length, get_or, take, drop, Some, None, Option, sym, refl, ap, ◌∙◌, subst, ap₂, ⊎_elim, arith}
-use Rattle.std.specs.List.{AllByRecursion as All}
+use Rattle.std.specs.List.{AllByRecursion}
 use Rattle.std.proofs.lemmas.List.{append_assoc, length-append}
 use Rattle.std.proofs.lemmas.Bool.{ne_eqb, eqb-true, cond-true, cond-false}
 use Rattle.names.specs.Bytes.{name_start, name_byte}
@@ -93,7 +93,7 @@ test_complete : (t : WordTest) (r : List ℕ) → Good (record { axis = Child; t
 test_complete star r g l = refl
 test_complete (named []) r g l = absurd g
 test_complete (named (b ∷ n)) r g l =
-    let all : All (λ c. name_byte c ≡ true) (b ∷ n) = (start_is_name b g.0, g.1) in
+    let all : AllByRecursion (λ c. name_byte c ≡ true) (b ∷ n) = (start_is_name b g.0, g.1) in
     cond-false (eqb b 42) (Some (star, n ++ r)) _ (start_no_star b g.0)
     ∙ cond-true (name_start b) (Some (named (front name_byte (b ∷ (n ++ r))), after name_byte (b ∷ (n ++ r)))) None g.0
     ∙ ap₂ (λ (x : List ℕ) (y : List ℕ). Some (named x, y)) (front_append name_byte (b ∷ n) r all l) (after_append name_byte (b ∷ n) r all l)

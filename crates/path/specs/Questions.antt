@@ -4,7 +4,7 @@
 --     Read ms s before r after          reading s answers r and turns the step slots `before` into `after`
 --     Spelled c s r                     r is an Ok exactly if s is at most c steps, written one after another
 use Rattle.std.specs.Prelude.{◌≡◌, ℕ, zero, suc, ◌-◌, ◌≤◌, min, Bool, cond, ◌||◌, List, [], ◌∷◌, ◌++◌, map, length, drop, Some, None, Ok, Err, Result, ◌==◌, nat_lt}
-use Rattle.std.specs.List.{flat_map, AllByRecursion as All}
+use Rattle.std.specs.List.{flat_map, AllByRecursion}
 use Rattle.tree.specs.declared.step.Step.{Step}
 use Rattle.path.specs.declared.fault.QuestionFault.{QuestionFault}
 use Rattle.path.specs.declared.fault.QuestionFault.TheVariants.{Length, NoStep, TooMany}
@@ -78,7 +78,7 @@ pub record Written (c : ℕ) (s : List ℕ) (ws : List Wording) : Type 0 where
   pub some : 1 ≤ length ws
   pub few : length ws ≤ c
   pub short : length s ≤ 512
-  pub good : All Good ws
+  pub good : AllByRecursion Good ws
   pub is : s ≡ flat_map written ws
 
 abbrev pub Spelled : ℕ → List ℕ → Result ℕ QuestionFault → Type 0

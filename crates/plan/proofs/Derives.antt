@@ -1,6 +1,6 @@
 -- A document of the grammar is accepted, with its nodes and names.
 use Rattle.std.proofs.Common.{◌≡◌, ℕ, ◌+◌, ◌-◌, ◌<◌, ◌≤◌, true, false, not, ◌&&◌, eqb, ltb, leb, List, [], ◌∷◌, ◌++◌, map, length, Some, None, Ok, Err, Result, sym, refl, ap, ◌∙◌, subst, ⊎_elim, arith, length-append}
-use Rattle.std.specs.List.{AllByRecursion as All}
+use Rattle.std.specs.List.{AllByRecursion}
 use Rattle.std.specs.Str.{bytes_eq}
 use Rattle.std.proofs.lemmas.Slice.Eq.{bytes_eq-Decides}
 use Rattle.std.proofs.lemmas.Bool.{cond-true, cond-false, ne_eqb, lt-ltb, le-ltb, lt-leb, or_left, and_left, and_right, cases_lt}
@@ -91,7 +91,7 @@ module _ (m : Room) (n : ℕ) where
         (goes_element element os h e (and_left (eqb (length os) 0) (ltb 0 (length h.nodes)) (ne_eqb (length os) 0 (λ z. omega arith))) (fit_left m h es fs fits))
         (goes_content content os (grow h es) e deep (fit_right m h es fs fits)))
 
-  goes_white : (h : Held) (w s : List ℕ) → All (λ b. white b ≡ true) w → Goes (seen_with [] h) (w ++ s) (seen_with [] h) s
+  goes_white : (h : Held) (w s : List ℕ) → AllByRecursion (λ b. white b ≡ true) w → Goes (seen_with [] h) (w ++ s) (seen_with [] h) s
   goes_white h [] s a = λ f l. (f, l, refl)
   goes_white h (b ∷ w) s a =
       goes_on (seen_with [] h) (seen_with [] h) (seen_with [] h) (b ∷ (w ++ s)) (w ++ s) s

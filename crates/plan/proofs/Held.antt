@@ -1,6 +1,6 @@
 -- The nodes and names that entries leave, one after the other.
 use Rattle.std.proofs.Common.{◌≡◌, ℕ, ◌+◌, ◌<◌, ◌≤◌, List, [], ◌∷◌, ◌++◌, map, length, fold, sym, refl, ap, ◌∙◌, ⊎_elim, append_assoc, append-nil, arith, length-append}
-use Rattle.std.specs.List.{AllByRecursion as All}
+use Rattle.std.specs.List.{AllByRecursion}
 use Rattle.std.proofs.lemmas.Bool.{cases_lt}
 use Rattle.tree.specs.declared.slot.Slot.{Slot}
 use Rattle.plan.specs.declared.counts.Room.{Room}
@@ -61,7 +61,7 @@ nodes_more : (h : Held) (e : Entry) → length (add h e).nodes ≡ length h.node
 nodes_more h e = length-append h.nodes (slot_in h.names e ∷ [])
 
 -- the limits of all together are limits of each in its turn
-fit_each : (m : Room) (h : Held) (es : List Entry) → All (λ e. length e.name ≤ 64) es → All (λ e. e.depth ≤ 64) es → length h.nodes + length es ≤ m.nodes → length (grow h es).names ≤ m.names → AllFit m h es
+fit_each : (m : Room) (h : Held) (es : List Entry) → AllByRecursion (λ e. length e.name ≤ 64) es → AllByRecursion (λ e. e.depth ≤ 64) es → length h.nodes + length es ≤ m.nodes → length (grow h es).names ≤ m.names → AllFit m h es
 fit_each m h [] a b c d = tt
 fit_each m h (e ∷ es) a b c d = (
   record {
@@ -76,11 +76,11 @@ fit_each m h (e ∷ es) a b c d = (
 pub limits_fit : (m : Room) (es : List Entry) → Limits m es → AllFit m bare es
 limits_fit m es k = fit_each m bare es k.short k.shallow (omega (arith, k.nodes)) (omega (arith, ap length (names_are bare es), k.names))
 
-fit_short : (m : Room) (h : Held) (es : List Entry) → AllFit m h es → All (λ e. length e.name ≤ 64) es
+fit_short : (m : Room) (h : Held) (es : List Entry) → AllFit m h es → AllByRecursion (λ e. length e.name ≤ 64) es
 fit_short m h [] a = tt
 fit_short m h (e ∷ es) a = (a.0.short, fit_short m (add h e) es a.1)
 
-fit_shallow : (m : Room) (h : Held) (es : List Entry) → AllFit m h es → All (λ e. e.depth ≤ 64) es
+fit_shallow : (m : Room) (h : Held) (es : List Entry) → AllFit m h es → AllByRecursion (λ e. e.depth ≤ 64) es
 fit_shallow m h [] a = tt
 fit_shallow m h (e ∷ es) a = (a.0.shallow, fit_shallow m (add h e) es a.1)
 

@@ -1,6 +1,6 @@
 -- Each name of a derivation is that of a node, and names are numbered as they first appear.
 use Rattle.std.proofs.Common.{◌≡◌, ℕ, zero, suc, ◌+◌, ◌-◌, ◌<◌, ◌≤◌, List, [], ◌∷◌, map, length, get_or, sym, ap, ◌∙◌, subst, ⊎_elim, arith}
-use Rattle.std.specs.List.{AllByRecursion as All}
+use Rattle.std.specs.List.{AllByRecursion}
 use Rattle.std.proofs.lemmas.List.{get_or-map, length-map, length_push}
 use Rattle.std.proofs.ByRecursion.{All-get_or}
 use Rattle.std.proofs.lemmas.Bool.{cases_lt}
@@ -59,7 +59,7 @@ module _ (text : List ℕ) (ms : List (List ℕ)) (es : List Entry) (k : ℕ) (f
   slot_at : (j : ℕ) → j < length es → get_or (map (slot_in ms) es) j free ≡ slot_in ms (get_or es j nobody)
   slot_at j l = get_or-map (slot_in ms) es j nobody free l
 
-  source_of : All (Placed text ms) (map (slot_in ms) es) → Source text (map (slot_in ms) es) ms k
+  source_of : AllByRecursion (Placed text ms) (map (slot_in ms) es) → Source text (map (slot_in ms) es) ms k
   source_of places =
       let long = length-map es (slot_in ms) in
       let label : (get_or (map (slot_in ms) es) f.at free).label ≡ k + 1 = ap (λ (s : Slot). s.label) (slot_at f.at f.within) ∙ ap (λ (i : ℕ). i + 1) f.here in
@@ -73,9 +73,9 @@ module _ (text : List ℕ) (ms : List (List ℕ)) (es : List Entry) (k : ℕ) (f
             (All-get_or (Placed text ms) (map (slot_in ms) es) f.at free (omega (arith, f.within)) places).name;
       }
 
-pub derived_sources : (m : Room) (text : List ℕ) (c : Counts) (ns : List Slot) (ms : List (List ℕ)) → Derived m text c ns ms → All (Placed text ms) ns → (k : ℕ) → k < length ms → Source text ns ms k
+pub derived_sources : (m : Room) (text : List ℕ) (c : Counts) (ns : List Slot) (ms : List (List ℕ)) → Derived m text c ns ms → AllByRecursion (Placed text ms) ns → (k : ℕ) → k < length ms → Source text ns ms k
 derived_sources m text c ns ms d places k l =
     let es = d.entries in
     let same : (grow bare es).names ≡ ms = names_are bare es ∙ sym d.names in
     let f : First ms es k = subst (λ (z : List (List ℕ)). First z es k) same (first_of bare es k (omega arith) (omega (arith, ap length same))) in
-    subst (λ (z : List Slot). Source text z ms k) (sym d.nodes) (source_of text ms es k f (subst (All (Placed text ms)) d.nodes places))
+    subst (λ (z : List Slot). Source text z ms k) (sym d.nodes) (source_of text ms es k f (subst (AllByRecursion (Placed text ms)) d.nodes places))

@@ -1,6 +1,6 @@
 -- The place of each node of a derivation is that of its tag in the text, and its name is among the names.
 use Rattle.std.proofs.Common.{◌≡◌, ℕ, ◌+◌, ◌-◌, ◌<◌, ◌≤◌, List, [], ◌∷◌, ◌++◌, map, length, get_or, sym, refl, ap, ◌∙◌, subst, ⊎_elim, arith, length-append}
-use Rattle.std.specs.List.{AllByRecursion as All}
+use Rattle.std.specs.List.{AllByRecursion}
 use Rattle.std.proofs.lemmas.List.{get_or_at}
 use Rattle.std.proofs.ByRecursion.{All-append}
 use Rattle.std.proofs.lemmas.List.Prefix.{end_rest}
@@ -49,14 +49,14 @@ module _ (text : List ℕ) where
   named_at s t r (w, e) h = tag_named text (length text - length s) t r (subst (λ (z : List ℕ). TagAt z t r) (sym (end_rest text s w e)) h)
 
   mutual
-    element_stood : {d : ℕ} {s r : List ℕ} {es : List Entry} → Element (length text) d s r es → Ends text s → All (Stood text) es
+    element_stood : {d : ℕ} {s r : List ℕ} {es : List Entry} → Element (length text) d s r es → Ends text s → AllByRecursion (Stood text) es
     element_stood {s = s} {r = r} (alone k t) w = (record { tag = opens_at s t.0 w t.2; name = named_at s (empty k) r w t }, tt)
     element_stood {s = s} (around k t u x content y) w = (
       record { tag = opens_at s x.0 w x.2; name = named_at s (start k) t w x },
       content_stood content (ends_on text s t w (tag_on s (start k) t x)),
     )
 
-    content_stood : {d : ℕ} {s r : List ℕ} {es : List Entry} → Content (length text) d s r es → Ends text s → All (Stood text) es
+    content_stood : {d : ℕ} {s r : List ℕ} {es : List Entry} → Content (length text) d s r es → Ends text s → AllByRecursion (Stood text) es
     content_stood none w = tt
     content_stood (byte {s = s} b x content) w = content_stood content (ends_on text (b ∷ s) s w (b ∷ [], refl))
     content_stood {s = s} (child {es = es} {fs = fs} t element content) w =
@@ -75,7 +75,7 @@ with_has n ms more =
 abbrev Known : List (List ℕ) → Entry → Type 0
 Known ms e = before e.name ms < length ms
 
-all_known : (h : Held) (es : List Entry) → All (Known (grow h es).names) es
+all_known : (h : Held) (es : List Entry) → AllByRecursion (Known (grow h es).names) es
 all_known h [] = tt
 all_known h (e ∷ es) =
     let more = grow_names (add h e) es in
@@ -86,14 +86,14 @@ slot_placed text ms e s k =
     let back : before e.name ms ≡ before e.name ms + 1 - 1 = omega arith in
     record { tag = s.tag; name = subst (Stands text (e.place + 1)) (sym (before_is e.name ms k) ∙ ap (λ (i : ℕ). get_or ms i []) back) s.name }
 
-slots_placed : (text : List ℕ) (ms : List (List ℕ)) (es : List Entry) → All (Stood text) es → All (Known ms) es → All (Placed text ms) (map (slot_in ms) es)
+slots_placed : (text : List ℕ) (ms : List (List ℕ)) (es : List Entry) → AllByRecursion (Stood text) es → AllByRecursion (Known ms) es → AllByRecursion (Placed text ms) (map (slot_in ms) es)
 slots_placed text ms [] a b = tt
 slots_placed text ms (e ∷ es) a b = (slot_placed text ms e a.0 b.0, slots_placed text ms es a.1 b.1)
 
-pub derived_places : (m : Room) (text : List ℕ) (c : Counts) (ns : List Slot) (ms : List (List ℕ)) → Derived m text c ns ms → All (Placed text ms) ns
+pub derived_places : (m : Room) (text : List ℕ) (c : Counts) (ns : List Slot) (ms : List (List ℕ)) → Derived m text c ns ms → AllByRecursion (Placed text ms) ns
 derived_places m text c ns ms d =
     let es = d.entries in
     let white = d.document.before_root in
     let same : (grow bare es).names ≡ ms = names_are bare es ∙ sym d.names in
-    subst (All (Placed text ms)) (sym d.nodes)
-    (slots_placed text ms es (element_stood text d.document.element (white.0, white.2)) (subst (λ (z : List (List ℕ)). All (Known z) es) same (all_known bare es)))
+    subst (AllByRecursion (Placed text ms)) (sym d.nodes)
+    (slots_placed text ms es (element_stood text d.document.element (white.0, white.2)) (subst (λ (z : List (List ℕ)). AllByRecursion (Known z) es) same (all_known bare es)))

@@ -1,7 +1,7 @@
 -- The nodes of a derivation are a tree.
 use Rattle.std.proofs.Common.{◌≡◌, ℕ, zero, suc, ◌+◌, ◌≤◌, true, List, [], ◌∷◌, ◌++◌, map, length, sym, refl, ap, ◌∙◌, subst, arith}
 use lib.ListN.{length-map}
-use Rattle.std.specs.List.{AllByRecursion as All}
+use Rattle.std.specs.List.{AllByRecursion}
 use Rattle.std.proofs.lemmas.List.{map-append}
 use Rattle.std.proofs.lemmas.Bool.{le-leb, and_from, cond-true}
 use Rattle.names.specs.Lists.{before}
@@ -68,7 +68,7 @@ right_shape : (p l d : ℕ) → 1 ≤ l → l ≤ 65535 → least p ≤ d → d 
 right_shape p l d a b c e f = and_from _ _ (le-leb 1 l a) (and_from _ _ (le-leb l 65535 b) (and_from _ _ (le-leb (least p) d c) (and_from _ _ (le-leb d 64 e) (le-leb d (p + 1) f))))
 
 -- slots whose depths climb so have no wrong one among them
-none_wrong : (ms : List (List ℕ)) (es : List Entry) (p i : ℕ) → length ms ≤ 512 → All (λ e. e.depth ≤ 64) es → Climbs p (depths es) → wrong p i (map (slot_in ms) es) ≡ 0
+none_wrong : (ms : List (List ℕ)) (es : List Entry) (p i : ℕ) → length ms ≤ 512 → AllByRecursion (λ e. e.depth ≤ 64) es → Climbs p (depths es) → wrong p i (map (slot_in ms) es) ≡ 0
 none_wrong ms [] p i l a c = refl
 none_wrong ms (e ∷ es) p i l a c =
     cond-true (shape p (before e.name ms + 1) e.depth) (wrong e.depth (suc i) (map (slot_in ms) es)) i (right_shape p (before e.name ms + 1) e.depth (omega arith) (omega (arith, before_le e.name ms)) c.0 a.0 c.1)

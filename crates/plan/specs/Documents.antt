@@ -5,8 +5,8 @@
 --     Document text es      the whole text
 --     Limits m es           the nodes es keep the limits, with room m
 --     Judged m text r       r is an Ok exactly if the grammar derives the text within the limits
-use Rattle.std.specs.Prelude.{◌≡◌, ℕ, ◌+◌, ◌-◌, ◌≤◌, List, [], ◌∷◌, ◌++◌, map, length, Ok, Err, Result, ◌≢◌}
-use Rattle.std.specs.List.{AllByRecursion as All}
+use Rattle.std.specs.Prelude.{◌≡◌, ℕ, ◌+◌, ◌-◌, ◌≤◌, List, [], ◌∷◌, ◌++◌, map, length, Ok, Err, fold, Result, ◌≢◌}
+use Rattle.std.specs.List.{AllByRecursion}
 use Rattle.tree.specs.declared.slot.Slot.{Slot}
 use Rattle.plan.specs.declared.counts.Counts.{Counts}
 use Rattle.plan.specs.declared.counts.Room.{Room}
@@ -14,7 +14,7 @@ use Rattle.plan.specs.declared.fault.PlanFault.{PlanFault}
 use Rattle.names.specs.Bytes.{white}
 use Rattle.tags.specs.Tags.{start, empty, end, Run, TagAt}
 use Rattle.plan.specs.Plans.{outcome}
-use Rattle.names.specs.Lists.{before, first_names}
+use Rattle.names.specs.Lists.{before, with_name}
 
 -- a node: its element's name, its depth and the place of its tag
 pub record Entry : Type 0 where
@@ -44,15 +44,15 @@ pub record Document (text : List ℕ) (es : List Entry) : Type 0 where
 
 -- the different names of some entries, in the order of their first appearance
 abbrev pub names_of : List Entry → List (List ℕ)
-names_of es = first_names (λ e. e.name) es
+names_of es = fold (λ ms e. with_name e.name ms) [] es
 
 -- the node slot of an entry, whose label is the number of its name among ms, from 1
 abbrev pub slot_in : List (List ℕ) → Entry → Slot
 slot_in ms e = record { label = before e.name ms + 1; depth = e.depth; place = e.place }
 
 pub record Limits (m : Room) (es : List Entry) : Type 0 where
-  pub short : All (λ e. length e.name ≤ 64) es
-  pub shallow : All (λ e. e.depth ≤ 64) es
+  pub short : AllByRecursion (λ e. length e.name ≤ 64) es
+  pub shallow : AllByRecursion (λ e. e.depth ≤ 64) es
   pub nodes : length es ≤ m.nodes
   pub names : length (names_of es) ≤ m.names
 

@@ -6,7 +6,7 @@
 --     Planned text r ns ms       a reading that answered r left the nodes and names of a plan in the slots ns and ms
 use Rattle.std.specs.Prelude.{◌≡◌, ℕ, ◌+◌, ◌-◌, ◌<◌, ◌≤◌, List, [], length, get_or, take, Ok, Err, Result, slice_index_or}
 use Rattle.std.specs.Borrow.{Bor}
-use Rattle.std.specs.List.{AllByRecursion as All}
+use Rattle.std.specs.List.{AllByRecursion}
 use Rattle.names.specs.Lists.{IsNameList}
 use Rattle.tags.specs.Pieces.{Stands}
 use Rattle.tree.specs.declared.slot.Slot.{Slot}
@@ -36,7 +36,7 @@ pub record Source (text : List ℕ) (ns : List Slot) (ms : List (List ℕ)) (k :
 pub record Plan (text : List ℕ) (ns : List Slot) (ms : List (List ℕ)) : Type 0 where
   pub tree : Laws node_limit (numbered 1 ns)
   pub names : IsNameList ms
-  pub places : All (Placed text ms) ns
+  pub places : AllByRecursion (Placed text ms) ns
   pub sources : (k : ℕ) → k < length ms → Source text ns ms k
 
 pub record FilledPlan (text : List ℕ) (c : Counts) (ns : List Slot) (ms : List (Bor (List ℕ))) : Type 0 where

@@ -1,6 +1,6 @@
 -- Name fields written and read again.
 use Rattle.std.proofs.Common.{◌≡◌, ℕ, zero, suc, ◌≤◌, true, leb, List, [], ◌∷◌, ◌++◌, length, take, drop, Some, None, Ok, Err, Option, Result, sym, refl, ap, ◌∙◌, subst, ap₂, arith}
-use Rattle.std.specs.List.{flat_map, AllByRecursion as All}
+use Rattle.std.specs.List.{flat_map, AllByRecursion}
 use Rattle.std.proofs.lemmas.List.{append-nil, append_assoc, length-append, length-take-le, take_at, drop_at, take-append-drop}
 use Rattle.std.proofs.lemmas.Bool.{cond-true, le-leb, leb-true, and_parts, and_from}
 use Rattle.names.specs.Lists.{before, good_beside, ShortName, Distinct}
@@ -22,7 +22,7 @@ field_read ms m r h =
 abbrev after_field : ℕ → List (List ℕ) → List ℕ → Option (List ℕ × List ℕ) → Result (List (List ℕ) × List ℕ) (List ℕ)
 after_field k ms s o = elim o as (λ _. Result (List (List ℕ) × List ℕ) (List ℕ)) [ None ↦ Err s | Some p ↦ names_at k (ms ++ p.0 ∷ []) p.1 ]
 
-pub names_read : (done ms : List (List ℕ)) (r : List ℕ) → All ShortName ms → Distinct (done ++ ms) → names_at (length ms) done (flat_map name_field ms ++ r) ≡ Ok (done ++ ms, r)
+pub names_read : (done ms : List (List ℕ)) (r : List ℕ) → AllByRecursion ShortName ms → Distinct (done ++ ms) → names_at (length ms) done (flat_map name_field ms ++ r) ≡ Ok (done ++ ms, r)
 names_read done [] r a d = ap (λ (z : List (List ℕ)). Ok (z, r)) (sym (append-nil done))
 names_read done (m ∷ ms) r a d =
     let new = distinct_before done m ms d in

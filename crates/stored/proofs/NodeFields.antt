@@ -1,6 +1,6 @@
 -- Node fields written and read again.
 use Rattle.std.proofs.Common.{◌≡◌, ℕ, zero, suc, ◌+◌, ◌*◌, ◌/◌, ◌%◌, ◌≤◌, max, Bool, true, false, cond, ◌&&◌, ltb, leb, List, [], ◌∷◌, ◌++◌, length, Some, None, Ok, Err, Option, Result, sym, refl, ap, ◌∙◌, subst, ap₂, arith}
-use Rattle.std.specs.List.{flat_map, AllByRecursion as All}
+use Rattle.std.specs.List.{flat_map, AllByRecursion}
 use Rattle.std.proofs.lemmas.Bool.{cond-true, lt-ltb, ltb-true, le-leb, leb-true, and_parts, and_from}
 use Rattle.names.proofs.Found.{none_some, cond_some, some_same}
 use Rattle.tree.specs.Nodes.{Node, shape, chain}
@@ -50,7 +50,7 @@ nodes_read k g d (n ∷ ns) r t =
     ∙ cond-true _ _ (Err s) (and_from _ _ t.0 t.1)
     ∙ nodes_read k (max g n.label) n.depth ns r t.2
 
-pub nodes_back : (i : ℕ) (ns : List Node) → From i ns → All (λ n. n.label ≤ 65535) ns → nodes_in i (flat_map node_field ns) ≡ ns
+pub nodes_back : (i : ℕ) (ns : List Node) → From i ns → AllByRecursion (λ n. n.label ≤ 65535) ns → nodes_in i (flat_map node_field ns) ≡ ns
 nodes_back i [] f a = refl
 nodes_back i (n ∷ ns) f a =
     let here : record { label = n.label / 256 % 256 * 256 + n.label % 256; depth = n.depth; origin = i } ≡ n = λ j. record { label = label_value n.label a.0 j; depth = n.depth; origin = sym f.0 j } in
@@ -102,7 +102,7 @@ nodes_are k (suc n) g d i s h r e = go (node_field_at s) refl e (nodes_are k n)
           last = m.last;
         }
 
-pub turn_labels : (k g d : ℕ) (ns : List Node) → Turn k g d ns → All (λ n. n.label ≤ 65535) ns
+pub turn_labels : (k g d : ℕ) (ns : List Node) → Turn k g d ns → AllByRecursion (λ n. n.label ≤ 65535) ns
 turn_labels k g d [] t = tt
 turn_labels k g d (n ∷ ns) t = ((shape_label d n.label n.depth t.1).1, turn_labels k (max g n.label) n.depth ns t.2)
 

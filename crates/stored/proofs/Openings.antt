@@ -1,7 +1,7 @@
 -- Images of plans open, and what opens is the image of a plan.
 use Rattle.std.proofs.Common.{◌≡◌, ℕ, ◌+◌, ◌*◌, ◌≤◌, Bool, true, false, cond, ◌&&◌, eqb, leb, List, [], ◌∷◌, ◌++◌, length, take, Some, None, Ok, Err, Option, Result, sym, refl, ap, ◌∙◌, subst, ap₂, arith}
 use lib.ListN.{length-map}
-use Rattle.std.specs.List.{flat_map, AllByRecursion as All}
+use Rattle.std.specs.List.{flat_map, AllByRecursion}
 use Rattle.std.proofs.lemmas.List.{append-nil, length-append, nil_from_length, take_all}
 use Rattle.std.proofs.lemmas.Bool.{cond-true, le-leb, leb-true, eq-eqb, eqb-true, and_parts, and_from}
 use Rattle.names.specs.Lists.{ShortName}
@@ -47,7 +47,7 @@ nodes_behind k s o = elim o as (λ _. Result (List TreeNode) (List ℕ)) [ None 
 abbrev pub body_behind : Result (List ℕ) ImageFault → Result Stored ImageFault
 body_behind r = elim r as (λ _. Result Stored ImageFault) [ Err e ↦ Err e | Ok b ↦ opened_body b ]
 
-pub length_names : (ms : List (List ℕ)) → All ShortName ms → length (flat_map name_field ms) ≤ 65 * length ms
+pub length_names : (ms : List (List ℕ)) → AllByRecursion ShortName ms → length (flat_map name_field ms) ≤ 65 * length ms
 length_names [] a = omega arith
 length_names (m ∷ ms) a = omega (arith, length_names ms a.1, length-append (name_field m) (flat_map name_field ms), a.0.1)
 

@@ -1,7 +1,7 @@
 -- Plans that can be stored, and the trees that they come from.
 use Rattle.std.proofs.Common.{◌≡◌, ℕ, zero, suc, ◌<◌, ◌≤◌, max, true, leb, List, [], ◌∷◌, length, get_or, refl, arith}
 use lib.ListN.{length-map}
-use Rattle.std.specs.List.{AllByRecursion as All}
+use Rattle.std.specs.List.{AllByRecursion}
 use Rattle.std.proofs.ByRecursion.{All-get_or}
 use Rattle.std.proofs.lemmas.Bool.{le-leb, and_parts, and_from}
 use Rattle.names.specs.Lists.{before, ShortName}
@@ -48,13 +48,13 @@ storable ps g m d a b =
 abbrev pub Borne : List (List ℕ) → Node → Type 0
 Borne ms n = (1 ≤ n.label) × (n.label ≤ length ms)
 
-pub chain_borne : (ms : List (List ℕ)) (p : Node) (ns : List Node) → chain p ns ≡ true → All (λ n. n.label ≤ length ms) ns → All (Borne ms) ns
+pub chain_borne : (ms : List (List ℕ)) (p : Node) (ns : List Node) → chain p ns ≡ true → AllByRecursion (λ n. n.label ≤ length ms) ns → AllByRecursion (Borne ms) ns
 chain_borne ms p [] h a = tt
 chain_borne ms p (n ∷ ns) h a =
     let c = and_parts (follows p n) (chain n ns) h in
     (((shape_label p.depth n.label n.depth (and_parts (shape p.depth n.label n.depth) _ c.0).0).0, a.0), chain_borne ms n ns c.1 a.1)
 
-name_short : (ms : List (List ℕ)) (l : ℕ) → All ShortName ms → 1 ≤ l → l ≤ length ms → ShortName (name_at ms l)
+name_short : (ms : List (List ℕ)) (l : ℕ) → AllByRecursion ShortName ms → 1 ≤ l → l ≤ length ms → ShortName (name_at ms l)
 name_short ms zero s a b = absurd (omega arith)
 name_short ms (suc k) s a b = All-get_or ShortName ms k [] (omega arith) s
 
@@ -62,11 +62,11 @@ name_known : (ms : List (List ℕ)) (l : ℕ) → 1 ≤ l → l ≤ length ms �
 name_known ms zero a b = absurd (omega arith)
 name_known ms (suc k) a b = omega (arith, before_first (get_or ms k []) ms k (omega arith) refl)
 
-plan_short : (ms : List (List ℕ)) (ns : List Node) → All ShortName ms → All (Borne ms) ns → All (λ p. ShortName p.name) (plan_of ms ns)
+plan_short : (ms : List (List ℕ)) (ns : List Node) → AllByRecursion ShortName ms → AllByRecursion (Borne ms) ns → AllByRecursion (λ p. ShortName p.name) (plan_of ms ns)
 plan_short ms [] s a = tt
 plan_short ms (n ∷ ns) s a = (name_short ms n.label s a.0.0 a.0.1, plan_short ms ns s a.1)
 
-pub plan_known : (ms : List (List ℕ)) (ns : List Node) → All (Borne ms) ns → All (λ p. before p.name ms < length ms) (plan_of ms ns)
+pub plan_known : (ms : List (List ℕ)) (ns : List Node) → AllByRecursion (Borne ms) ns → AllByRecursion (λ p. before p.name ms < length ms) (plan_of ms ns)
 plan_known ms [] a = tt
 plan_known ms (n ∷ ns) a = (name_known ms n.label a.0.0 a.0.1, plan_known ms ns a.1)
 

@@ -1,6 +1,6 @@
 -- The laws of stored images. Assumes nothing.
 use Rattle.std.specs.Prelude.{◌≡◌, ℕ, ◌≤◌, List, length, Ok}
-use Rattle.std.specs.List.{AllByRecursion as All}
+use Rattle.std.specs.List.{AllByRecursion}
 use Rattle.names.specs.Lists.{IsNameList}
 use Rattle.tree.specs.Nodes.{Node, Laws, node_limit}
 use Rattle.stored.specs.Plans.{Named, Stored, plan_of, stored, Storable}
@@ -13,7 +13,7 @@ PlansAreStored = (ps : List Named) → Storable ps → plan_of (stored ps).names
 
 -- a tree whose labels are numbers of names is a plan that can be stored
 abbrev pub TreesArePlans : Type 0
-TreesArePlans = (ms : List (List ℕ)) (ns : List Node) → IsNameList ms → Laws node_limit ns → All (λ n. n.label ≤ length ms) ns → Storable (plan_of ms ns)
+TreesArePlans = (ms : List (List ℕ)) (ns : List Node) → IsNameList ms → Laws node_limit ns → AllByRecursion (λ n. n.label ≤ length ms) ns → Storable (plan_of ms ns)
 
 -- the image of a plan opens as what is stored of it
 abbrev pub ImagesOpen : Type 0

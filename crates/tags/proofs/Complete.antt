@@ -1,7 +1,7 @@
 -- Each tag of the grammar is found by the scanner, so at most one begins at a place.
 use Rattle.std.proofs.Common.{◌≡◌, ℕ, zero, suc, ◌<◌, Bool, true, false, cond, not, ◌&&◌, eqb, List, [], ◌∷◌, ◌++◌, length, Some, None, Option, sym, refl, ap, ◌∙◌, ap₂, arith}
 use Rattle.std.proofs.lemmas.Bool.{eq-eqb, and_from, and_right, cond-true, cond-false}
-use Rattle.std.specs.List.{AllByRecursion as All}
+use Rattle.std.specs.List.{AllByRecursion}
 use Rattle.names.specs.Bytes.{white, name_start, name_byte}
 use Rattle.tags.specs.Values.{quote, in_value}
 use Rattle.tags.specs.Tags.{Tag, start, empty, end, Run, Name, Gap, Value, Attribute, Attributes, none, more, TagAt, closed, quoted, valued, attribute, and_then, attributes, close, opening, ended, ending, inside, scan}
@@ -17,7 +17,7 @@ after_run : (p : ℕ → Bool) (s r : List ℕ) → Run p s r → begins p r ≡
 after_run p s r u h = ap (after p) u.2 ∙ after_append p u.0 r u.1 h
 
 -- a run, then a byte x: the text begins with one of its bytes or with x
-run_begins : (p q : ℕ → Bool) (w r : List ℕ) → ((b : ℕ) → p b ≡ true → q b ≡ false) → All (λ b. p b ≡ true) w → begins q r ≡ false → begins q (w ++ r) ≡ false
+run_begins : (p q : ℕ → Bool) (w r : List ℕ) → ((b : ℕ) → p b ≡ true → q b ≡ false) → AllByRecursion (λ b. p b ≡ true) w → begins q r ≡ false → begins q (w ++ r) ≡ false
 run_begins p q [] r d a h = h
 run_begins p q (b ∷ w) r d a h = d b a.0
 
@@ -40,7 +40,7 @@ name_begins : (s n r : List ℕ) → Name s n r → begins name_start s ≡ true
 name_begins s [] r (w, e) = absurd w
 name_begins s (b ∷ n) r (w, e) = ap (begins name_start) e ∙ w.0
 
-word_run : (n : List ℕ) → Word n → All (λ b. name_byte b ≡ true) n
+word_run : (n : List ℕ) → Word n → AllByRecursion (λ b. name_byte b ≡ true) n
 word_run [] w = tt
 word_run (b ∷ n) w = (start_is_name b w.0, w.1)
 

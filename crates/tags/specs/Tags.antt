@@ -7,7 +7,7 @@
 --     scan s               the tag that s begins with, and what follows it
 --     placed p o           what o holds, with the place p
 use Rattle.std.specs.Prelude.{◌≡◌, ℕ, zero, suc, Bool, true, cond, ◌&&◌, List, [], ◌∷◌, ◌++◌, length, Some, None, Option, ◌==◌}
-use Rattle.std.specs.List.{AllByRecursion as All}
+use Rattle.std.specs.List.{AllByRecursion}
 use Rattle.names.specs.Bytes.{white, name_start, name_byte}
 use Rattle.names.specs.Words.{Word, after, front, begins}
 use Rattle.tags.specs.Values.{quote, in_value}
@@ -19,7 +19,7 @@ pub data Tag : Type 0 where
 
 -- s begins with bytes that pass the test p, none or more
 abbrev pub Run : (ℕ → Bool) → List ℕ → List ℕ → Type 0
-Run p s r = (w : List ℕ) × All (λ b. p b ≡ true) w × (s ≡ w ++ r)
+Run p s r = (w : List ℕ) × AllByRecursion (λ b. p b ≡ true) w × (s ≡ w ++ r)
 
 abbrev pub Name : List ℕ → List ℕ → List ℕ → Type 0
 Name s n r = Word n × (s ≡ n ++ r)

@@ -1,6 +1,6 @@
 // Reading the nodes of a tree, one after another.
 ghost use Rattle.std.specs.Prelude.{◌≡◌};
-ghost use Rattle.tree.specs.Nodes.{node_at as node_of, shape};
+ghost use Rattle.tree.specs.Nodes.{node_at, shape};
 
 use crate::node::Node;
 use crate::trees::Tree;
@@ -17,7 +17,7 @@ pub fn may_follow(before: u16, label: u16, depth: u16) -> bool
 
 // The node with a number, whole.
 pub fn node_at<T: Tree>(tree: &T, number: u16) -> Node
-    ensures { result ≡ node_of (T.Tree.nodes tree.now) number }
+    ensures { result ≡ node_at (T.Tree.nodes tree.now) number }
 {
     Node {
         label: tree.label(number),

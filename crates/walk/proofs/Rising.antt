@@ -1,6 +1,6 @@
 -- The origins that a walk answers rise.
 use Rattle.std.proofs.Common.{◌≡◌, ℕ, zero, suc, ◌+◌, ◌<◌, ◌≤◌, List, [], ◌∷◌, map, length, get_or, take, filter, sym, ap, ◌∙◌, subst, arith}
-use Rattle.std.specs.List.{AllByRecursion as All}
+use Rattle.std.specs.List.{AllByRecursion}
 use Rattle.std.proofs.ByRecursion.{all_kept_by}
 use Rattle.std.proofs.lemmas.List.{take_all}
 use Rattle.tree.specs.Nodes.{Node, Laws, node_limit, count, origin_at}
@@ -11,7 +11,7 @@ use Rattle.walk.specs.Walks.{origins}
 use Rattle.walk.specs.Marks.{any_step}
 use Rattle.walk.proofs.Marking.{selects_next}
 
-numbers_most : (n b c : ℕ) → b + n ≤ suc c → All (λ k. k ≤ c) (numbers n b)
+numbers_most : (n b c : ℕ) → b + n ≤ suc c → AllByRecursion (λ k. k ≤ c) (numbers n b)
 numbers_most zero b c l = tt
 numbers_most (suc n) b c l = (omega arith, numbers_most n (suc b) c (omega arith))
 
@@ -19,7 +19,7 @@ next_origin : (ns : List Node) → Laws node_limit ns → (b k : ℕ) → b < k 
 next_origin ns laws zero k l h = (laws.origins k (omega arith) h).0
 next_origin ns laws (suc b) k l h = laws.rise (suc b) k (omega arith) l h
 
-origins_rise : (ns : List Node) → Laws node_limit ns → (b : ℕ) (ks : List ℕ) → Rises (suc b) ks → All (λ k. k ≤ count ns) ks → Rises (suc (origin_at ns b)) (map (origin_at ns) ks)
+origins_rise : (ns : List Node) → Laws node_limit ns → (b : ℕ) (ks : List ℕ) → Rises (suc b) ks → AllByRecursion (λ k. k ≤ count ns) ks → Rises (suc (origin_at ns b)) (map (origin_at ns) ks)
 origins_rise ns laws b [] r h = tt
 origins_rise ns laws b (k ∷ ks) r h = (next_origin ns laws b k r.0 h.0, origins_rise ns laws k ks r.1 h.1)
 

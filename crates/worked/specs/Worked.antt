@@ -1,7 +1,7 @@
 -- A plan worked through: what the definitions give, as a table. Assumes nothing.
 --     Worked     every row of the table is what the definitions give
 use Rattle.std.specs.Prelude.{◌≡◌, ℕ, List, [], ◌∷◌, map, Ok, Err, codes, Result}
-use Rattle.std.specs.List.{AllByRecursion as All}
+use Rattle.std.specs.List.{AllByRecursion}
 use Rattle.tree.specs.Nodes.{Node}
 use Rattle.tree.specs.Slots.{numbered}
 use Rattle.plan.specs.Plans.{outcome, room, Seen}
@@ -59,7 +59,7 @@ pub record Worked : Type 0 where
   pub labels : map (λ (n : Node). n.label) nodes ≡ 1 ∷ 2 ∷ 3 ∷ 4 ∷ 3 ∷ 5 ∷ 3 ∷ []
   pub depths : map (λ (n : Node). n.depth) nodes ≡ 1 ∷ 2 ∷ 3 ∷ 3 ∷ 4 ∷ 2 ∷ 3 ∷ []
   pub origins : map (λ (n : Node). n.origin) nodes ≡ 1 ∷ 2 ∷ 3 ∷ 4 ∷ 5 ∷ 6 ∷ 7 ∷ []
-  pub answered : All Answers questions
+  pub answered : AllByRecursion Answers questions
   pub hidden : answer_line (hide (number_of (codes "DRAFT") names ∷ []) nodes) names (codes "//LESSON") ≡ codes "2 3 7\n"
   pub branched : answer_line (branch 2 nodes) names (codes "/MON/LESSON") ≡ codes "1 3\n"
-  pub refused : All Refuses plans
+  pub refused : AllByRecursion Refuses plans

@@ -1,7 +1,7 @@
 -- Names numbered as they appear among the nodes of a tree, one node after another.
 use Rattle.std.proofs.Common.{◌≡◌, ℕ, zero, suc, ◌+◌, ◌-◌, ◌<◌, ◌≤◌, ltb, List, [], ◌∷◌, ◌++◌, length, get_or, take, set, replicate, Some, None, sym, ap, ◌∙◌, subst, ⊎_elim, arith}
 use lib.ListN.{length-map}
-use Rattle.std.specs.List.{AllByRecursion as All}
+use Rattle.std.specs.List.{AllByRecursion}
 use Rattle.std.proofs.ByRecursion.{All-push, All-get_or, All-weaker}
 use Rattle.std.proofs.lemmas.List.{get_or-set_same, get_or-set_other, get_or-replicate, get_or-take, map_push, take_all, length_push, length-take-le}
 use Rattle.std.proofs.lemmas.Bool.{ltb-true, cases_eq, cases_lt}
@@ -21,7 +21,7 @@ use Rattle.writer.specs.Writings.{AllNamed, FirstNameless}
 
 -- the names of the first m nodes are numbered
 pub record Sofar (ms : List (List ℕ)) (ns : List Node) (m : ℕ) (n : Numbering) : Type 0 where
-  pub named : All (Borne ms) (take m ns)
+  pub named : AllByRecursion (Borne ms) (take m ns)
   pub numbers : Numbers ms (take m ns) n
 
 pub sofar_none : (ms : List (List ℕ)) (ns : List Node) (n : Numbering) → length ms ≤ 512 → ordered n ≡ [] → n.numbers ≡ replicate 512 0 → Sofar ms ns 0 n
@@ -43,7 +43,7 @@ named_is ms (suc k) n e =
 pub named_not : (ms : List (List ℕ)) (k : ℕ) → 1 ≤ k → None ≡ named ms k → length ms < k
 named_not ms k a e = ⊎_elim (λ (l : length ms < k). l) (λ (l : k ≤ length ms). absurd (none_some (get_or ms (k - 1) []) (e ∙ sym (named_some ms k a l)))) (cases_lt (length ms) k)
 
-all_before : (ms : List (List ℕ)) (ns : List Node) (m : ℕ) → All (Borne ms) (take m ns) → m ≤ count ns → (j : ℕ) → 1 ≤ j → j < m + 1 → label_at ns j ≤ length ms
+all_before : (ms : List (List ℕ)) (ns : List Node) (m : ℕ) → AllByRecursion (Borne ms) (take m ns) → m ≤ count ns → (j : ℕ) → 1 ≤ j → j < m + 1 → label_at ns j ≤ length ms
 all_before ms ns m a l zero b h = absurd (omega arith)
 all_before ms ns m a l (suc j) b h =
     subst (λ (n : Node). n.label ≤ length ms) (get_or-take m ns j nowhere (omega arith)) (All-get_or (Borne ms) (take m ns) j nowhere (omega (arith, length-take-le m ns l)) a).1
@@ -56,8 +56,8 @@ module _ (ms : List (List ℕ)) (ns : List Node) (m : ℕ) (l : m < count ns) (n
   seen = names_of (plan_of ms (take m ns))
 
   module _ (list : IsNameList ms) (label : ℕ) (is : label ≡ label_at ns (m + 1)) (low : 1 ≤ label) (high : label ≤ length ms) where
-    all_next : All (Borne ms) (take (m + 1) ns)
-    all_next = subst (All (Borne ms)) (sym (take_next ns m l)) (All-push (Borne ms) (take m ns) (node_at ns (m + 1)) s.named (omega (arith, is), omega (arith, is)))
+    all_next : AllByRecursion (Borne ms) (take (m + 1) ns)
+    all_next = subst (AllByRecursion (Borne ms)) (sym (take_next ns m l)) (All-push (Borne ms) (take m ns) (node_at ns (m + 1)) s.named (omega (arith, is), omega (arith, is)))
 
     names_next : names_of (plan_of ms (take (m + 1) ns)) ≡ with_name (name_at ms label) seen
     names_next =
@@ -126,4 +126,4 @@ module _ (ms : List (List ℕ)) (ns : List Node) (m : ℕ) (l : m < count ns) (n
 pub sofar_all : (ms : List (List ℕ)) (ns : List Node) (m : ℕ) (n : Numbering) → count ns ≤ m → Sofar ms ns m n → AllNamed ms ns × Numbers ms ns n
 sofar_all ms ns m n l s =
     let all = take_all m ns l in
-    (All-weaker (Borne ms) (λ (x : Node). x.label ≤ length ms) (λ x b. b.1) ns (subst (All (Borne ms)) all s.named), subst (λ (z : List Node). Numbers ms z n) all s.numbers)
+    (All-weaker (Borne ms) (λ (x : Node). x.label ≤ length ms) (λ x b. b.1) ns (subst (AllByRecursion (Borne ms)) all s.named), subst (λ (z : List Node). Numbers ms z n) all s.numbers)

@@ -1,7 +1,7 @@
 -- The image that a numbering gives is that of the plan.
 use Rattle.std.proofs.Common.{◌≡◌, ℕ, suc, ◌+◌, ◌-◌, ◌*◌, ◌<◌, ◌≤◌, List, [], ◌∷◌, ◌++◌, length, get_or, drop, Ok, Err, sym, refl, ap, ◌∙◌, subst, ap₂, arith}
 use lib.ListN.{length-map}
-use Rattle.std.specs.List.{flat_map, AllByRecursion as All}
+use Rattle.std.specs.List.{flat_map, AllByRecursion}
 use Rattle.std.proofs.lemmas.List.{append_assoc, length-append}
 use Rattle.names.specs.Lists.{number_of, ShortName, IsNameList}
 use Rattle.tree.specs.Nodes.{Node, Laws, nowhere, node_limit}
@@ -22,7 +22,7 @@ use Rattle.writer.proofs.Overwrites.{overwritten_first}
 pub body_long : (n : Numbering) (ns : List Node) → length (numbered_body n ns) ≡ 4 + (length (flat_map name_field (ordered n)) + 3 * length ns)
 body_long n ns = omega (arith, length-append (flat_map name_field (ordered n)) (two (length ns) ++ flat_map (numbered_field n.numbers) ns), length_fields n.numbers ns)
 
-fields_same : (ms : List (List ℕ)) (numbers : List ℕ) (names : List (List ℕ)) (i : ℕ) (ns : List Node) → All (Borne ms) ns → ((l : ℕ) → 1 ≤ l → l ≤ length ms → get_or numbers (l - 1) 0 ≡ number_of (name_at ms l) names)
+fields_same : (ms : List (List ℕ)) (numbers : List ℕ) (names : List (List ℕ)) (i : ℕ) (ns : List Node) → AllByRecursion (Borne ms) ns → ((l : ℕ) → 1 ≤ l → l ≤ length ms → get_or numbers (l - 1) 0 ≡ number_of (name_at ms l) names)
     → flat_map (numbered_field numbers) ns ≡ flat_map node_field (nodes_by names i (plan_of ms ns))
 fields_same ms numbers names i [] a h = refl
 fields_same ms numbers names i (n ∷ ns) a h =
@@ -46,8 +46,8 @@ pub image_long : (n : Numbering) (ns : List Node) → length (numbered_image n n
 image_long n ns = omega (arith, body_long n ns)
 
 -- the names of a numbering are short
-pub names_short : (ms : List (List ℕ)) (ns : List Node) (n : Numbering) → Laws node_limit ns → IsNameList ms → AllNamed ms ns → Numbers ms ns n → All ShortName (ordered n)
-names_short ms ns n laws list named k = subst (All ShortName) (sym k.names) (trees_are_plans ms ns list laws named).names.names
+pub names_short : (ms : List (List ℕ)) (ns : List Node) (n : Numbering) → Laws node_limit ns → IsNameList ms → AllNamed ms ns → Numbers ms ns n → AllByRecursion ShortName (ordered n)
+names_short ms ns n laws list named k = subst (AllByRecursion ShortName) (sym k.names) (trees_are_plans ms ns list laws named).names.names
 
 -- what is promised of a writing with this numbering, whose image has k bytes
 module _ (ms : List (List ℕ)) (ns : List Node) (n : Numbering) (laws : Laws node_limit ns) (named : AllNamed ms ns) (h : Numbers ms ns n) (k : ℕ) (long : k ≡ 9 + (length (flat_map name_field (ordered n)) + 3 * length ns)) (was : List ℕ) where

@@ -1,7 +1,7 @@
 -- The fields of the first names, and how long they are.
 use Rattle.std.proofs.Common.{◌≡◌, ℕ, zero, suc, ◌+◌, ◌*◌, ◌<◌, ◌≤◌, List, [], ◌∷◌, ◌++◌, length, get_or, take, sym, ap, ◌∙◌, subst, arith, Bor}
 use lib.ListN.{length-map}
-use Rattle.std.specs.List.{flat_map, AllByRecursion as All}
+use Rattle.std.specs.List.{flat_map, AllByRecursion}
 use Rattle.std.proofs.ByRecursion.{All-take, All-get_or}
 use Rattle.std.proofs.lemmas.List.{length-append, length-take-le, take_all, take-map, get_or-map, map_more, flat_map_more}
 use Rattle.names.specs.Lists.{texts, ShortName}
@@ -24,10 +24,10 @@ module _ (ns : List (Bor (List ℕ))) (i : ℕ) where
   pub length_more : i < length ns → length (flat_map name_field (texts (take (i + 1) ns))) ≡ length (flat_map name_field (texts (take i ns))) + (1 + length (get_or ns i no_text).now)
   length_more l = ap length (fields_more l) ∙ length-append (flat_map name_field (texts (take i ns))) (name_field (get_or ns i no_text).now) ∙ (let e : length (flat_map name_field (texts (take i ns))) + length (name_field (get_or ns i no_text).now) ≡ length (flat_map name_field (texts (take i ns))) + (1 + length (get_or ns i no_text).now) = omega arith in e)
 
-  module _ (short : All ShortName (texts ns)) where
+  module _ (short : AllByRecursion ShortName (texts ns)) where
     pub fields_short : i ≤ length ns → length (flat_map name_field (texts (take i ns))) ≤ 65 * i
     fields_short l =
-        let all = subst (All ShortName) (take-map (λ x. x.now) i ns) (All-take ShortName i (texts ns) short) in
+        let all = subst (AllByRecursion ShortName) (take-map (λ x. x.now) i ns) (All-take ShortName i (texts ns) short) in
         omega (arith, length_names (texts (take i ns)) all, length-map (take i ns) (λ x. x.now), length-take-le i ns l)
 
     pub name_short : i < length ns → length (get_or ns i no_text).now ≤ 64

@@ -1,6 +1,6 @@
 -- The fields of numbered nodes, one after another.
 use Rattle.std.proofs.Common.{◌≡◌, ℕ, ◌+◌, ◌*◌, ◌<◌, ◌≤◌, List, [], ◌∷◌, ◌++◌, length, get_or, take, sym, refl, ap, ◌∙◌, add-one, arith}
-use Rattle.std.specs.List.{flat_map, AllByRecursion as All}
+use Rattle.std.specs.List.{flat_map, AllByRecursion}
 use Rattle.std.proofs.ByRecursion.{All-get_or}
 use Rattle.std.proofs.lemmas.List.{flat_map_more, length-take-le}
 use Rattle.tree.specs.Nodes.{Node, Laws, nowhere, count, node_at, label_at, depth_at}
@@ -19,7 +19,7 @@ module _ (ns : List Node) (m : ℕ) (l : m < count ns) where
   pub front_long : (numbers : List ℕ) → length (flat_map (numbered_field numbers) (take m ns)) ≡ 3 * m
   front_long numbers = length_fields numbers (take m ns) ∙ ap (λ (k : ℕ). 3 * k) (length-take-le m ns (omega arith))
 
-  pub label_most : (most : ℕ) → All (λ n. n.label ≤ most) ns → label_at ns (m + 1) ≤ most
+  pub label_most : (most : ℕ) → AllByRecursion (λ n. n.label ≤ most) ns → label_at ns (m + 1) ≤ most
   label_most most a = let e : label_at ns (m + 1) ≡ (get_or ns m nowhere).label = ap (label_at ns) (add-one m) in omega (arith, All-get_or (λ (n : Node). n.label ≤ most) ns m nowhere l a)
 
   module _ (limit : ℕ) (laws : Laws limit ns) where

@@ -1,7 +1,7 @@
 -- What writing an image answers, and every byte afterwards. Assumes nothing.
 --     Writes ms ns was r is     writing the tree with the nodes ns and the names ms answers r and turns the bytes `was` into `is`
 use Rattle.std.specs.Prelude.{◌≡◌, ℕ, ◌-◌, ◌<◌, ◌≤◌, List, [], ◌∷◌, ◌++◌, length, drop, Ok, Err, Result, slice_index}
-use Rattle.std.specs.List.{flat_map, AllByRecursion as All}
+use Rattle.std.specs.List.{flat_map, AllByRecursion}
 use Rattle.tree.specs.Nodes.{Node, count, label_at}
 use Rattle.stored.specs.declared.fault.WriteFault.{WriteFault}
 use Rattle.stored.specs.declared.fault.WriteFault.TheVariants.{Short, Nameless}
@@ -13,7 +13,7 @@ use Rattle.writer.specs.Numberings.{ordered, Numbers}
 
 -- every label is the number of a name
 abbrev pub AllNamed : List (List ℕ) → List Node → Type 0
-AllNamed ms ns = All (λ n. n.label ≤ length ms) ns
+AllNamed ms ns = AllByRecursion (λ n. n.label ≤ length ms) ns
 
 -- the node k is the first whose label is above the number of names
 pub record FirstNameless (ms : List (List ℕ)) (ns : List Node) (k : ℕ) : Type 0 where

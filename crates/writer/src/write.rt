@@ -1,6 +1,6 @@
 // Writing the image of a tree.
 ghost use Rattle.std.specs.Prelude.{◌≡◌, ◌+◌, ◌*◌, ◌≤◌, [], length as length_of, replicate};
-ghost use Rattle.std.specs.List.{flat_map, AllByRecursion as All};
+ghost use Rattle.std.specs.List.{flat_map, AllByRecursion};
 ghost use Rattle.names.specs.Lists.{ShortName, texts};
 ghost use Rattle.names.specs.NameLists.{listed};
 ghost use Rattle.stored.specs.Images.{name_field};
@@ -52,7 +52,7 @@ fn overwrite(out: &mut [u8], at: usize, part: &[u8]) -> usize
 }
 
 fn write_names(out: &mut [u8], at: usize, names: &[&[u8]]) -> usize
-    requires short { All ShortName (texts names.now) }
+    requires short { AllByRecursion ShortName (texts names.now) }
     requires room { at + length_of (flat_map name_field (texts names.now)) ≤ length_of out.old }
     ensures bytes { out.new ≡ overwritten out.old at (flat_map name_field (texts names.now)) }
     ensures end { result ≡ at + length_of (flat_map name_field (texts names.now)) }
@@ -66,7 +66,7 @@ fn write_names(out: &mut [u8], at: usize, names: &[&[u8]]) -> usize
 }
 
 fn write_nodes<T: Tree>(out: &mut [u8], at: usize, tree: &T, numbering: &Numbering<'_>) -> usize
-    requires named { All (λ n. n.label ≤ 512) (T.Tree.nodes tree.now) }
+    requires named { AllByRecursion (λ n. n.label ≤ 512) (T.Tree.nodes tree.now) }
     requires room { at + 3 * length_of (T.Tree.nodes tree.now) ≤ length_of out.old }
     ensures bytes { out.new ≡ overwritten out.old at (flat_map (numbered_field numbering.now.numbers) (T.Tree.nodes tree.now)) }
     ensures end { result ≡ at + 3 * length_of (T.Tree.nodes tree.now) }
@@ -84,8 +84,8 @@ fn write_nodes<T: Tree>(out: &mut [u8], at: usize, tree: &T, numbering: &Numberi
 
 // Writes the whole image, which has this length.
 fn write_all<T: Tree>(out: &mut [u8], length: usize, tree: &T, numbering: &Numbering<'_>)
-    requires named { All (λ n. n.label ≤ 512) (T.Tree.nodes tree.now) }
-    requires short { All ShortName (ordered numbering.now) }
+    requires named { AllByRecursion (λ n. n.label ≤ 512) (T.Tree.nodes tree.now) }
+    requires short { AllByRecursion ShortName (ordered numbering.now) }
     requires value { length ≡ 9 + (length_of (flat_map name_field (ordered numbering.now)) + 3 * length_of (T.Tree.nodes tree.now)) }
     requires room { length ≤ length_of out.old }
     ensures { out.new ≡ overwritten out.old 0 (numbered_image numbering.now (T.Tree.nodes tree.now)) }

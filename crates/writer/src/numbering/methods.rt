@@ -1,6 +1,6 @@
 // Numbering names, and what their numbers are.
 ghost use Rattle.std.specs.Prelude.{◌≡◌, ◌+◌, ◌-◌, ◌*◌, ◌<◌, ◌≤◌, [], length, replicate, slice_index};
-ghost use Rattle.std.specs.List.{flat_map, AllByRecursion as All};
+ghost use Rattle.std.specs.List.{flat_map, AllByRecursion};
 ghost use Rattle.names.specs.Lists.{ShortName, texts};
 ghost use Rattle.stored.specs.Images.{name_field};
 ghost use Rattle.writer.specs.Numberings.{ordered, Added};
@@ -57,7 +57,7 @@ impl<'t> Numbering<'t> {
 
     // How long the image of a tree with these names and so many nodes is.
     pub fn image_length(&self, nodes: u16) -> usize
-        requires { All ShortName (ordered self.now) }
+        requires { AllByRecursion ShortName (ordered self.now) }
         ensures value { result ≡ 9 + (length (flat_map name_field (ordered self.now)) + 3 * nodes) }
     {
         let names = self.names();

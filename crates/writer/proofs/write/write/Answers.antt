@@ -1,5 +1,5 @@
 use Rattle.std.proofs.Common.{◌≡◌, ℕ, ◌+◌, ◌*◌, ◌≤◌, length, ap, ◌∙◌, arith, rules}
-use Rattle.std.specs.List.{flat_map, AllByRecursion as All}
+use Rattle.std.specs.List.{flat_map, AllByRecursion}
 use Rattle.std.proofs.ByRecursion.{All-weaker}
 use Rattle.names.specs.Lists.{ShortName}
 use Rattle.names.specs.NameLists.{listed}
@@ -13,7 +13,7 @@ use Rattle.writer.proofs.Images.{names_short, too_short, all_written}
 use Rattle.writer.proofs.write.write.Goals as goal
 use Rattle.writer.proofs.write.write.Goals.{In_ok-number_names, After-image_length-length}
 
-short : (g : _) (c : In_ok-number_names g) → All ShortName (ordered c.number_names.new.numbering)
+short : (g : _) (c : In_ok-number_names g) → AllByRecursion ShortName (ordered c.number_names.new.numbering)
 short g c =
     let ms = listed c.args.names.now in
     let done = c.in_ok-number_names.ensures in

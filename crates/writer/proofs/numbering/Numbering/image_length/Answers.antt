@@ -1,6 +1,6 @@
 use Rattle.std.proofs.Common.{◌≤◌, length, take, sym, ap, ◌∙◌, subst, arith, rules}
 use lib.ListN.{length-map}
-use Rattle.std.specs.List.{flat_map, AllByRecursion as All}
+use Rattle.std.specs.List.{flat_map, AllByRecursion}
 use Rattle.std.proofs.lemmas.List.{length-take-le}
 use Rattle.names.specs.Lists.{ShortName, texts}
 use Rattle.stored.specs.Images.{name_field}
@@ -13,8 +13,8 @@ few c =
     let n = c.args.self.now in
     omega (arith, length-map c.names-names.result.now (λ x. x.now), ap length c.names-names.ensures, length-map (take n.count n.names) (λ x. x.now), length-take-le n.count n.names (omega arith))
 
-short : (c : In-loop-name) → All ShortName (texts c.names-names.result.now)
-short c = subst (All ShortName) (sym c.names-names.ensures) c.requires
+short : (c : In-loop-name) → AllByRecursion ShortName (texts c.names-names.result.now)
+short c = subst (AllByRecursion ShortName) (sym c.names-names.ensures) c.requires
 
 pub overflow_add-length-in-loop-name-2 : goal.overflow_add-length-in-loop-name-2
 overflow_add-length-in-loop-name-2 c =
