@@ -1,4 +1,4 @@
-use Rattle.std.proofs.Common.{◌≡◌, ℕ, ◌+◌, List, [], ◌∷◌, ◌++◌, map, length, drop, set, sym, ap, ◌∙◌, subst, arith}
+use Rattle.std.proofs.Common.{◌≡◌, ℕ, ◌+◌, List, [], ◌∷◌, ◌++◌, map, length, drop, set, sym, ap, ◌∙◌, subst, arith, rules}
 use Rattle.tree.specs.Nodes.{count, origin_at}
 use Rattle.tree.specs.Stacks.{items, lent}
 use Rattle.tree.proofs.Stacks.{pushed, pushed_lent}
@@ -25,7 +25,8 @@ loop-m-preserved-then-advance g c =
     let ns = g.T.Tree.nodes c.args.tree.now in
     let q = c.args.steps.now in
     let s = sofar_yes ns q c.args.out.now c.loop-m.m c.loop-m.n c.loop-m.out c.loop-m.invariant.3 (sym c.if-advance.ensures.value) in
-    (omega arith, c.if-advance.ensures.room, c.if-advance.ensures.marks, subst (Sofar ns q c.args.out.now (c.loop-m.m + 1) (c.loop-m.n + 1)) (sym (c.put.ensures ∙ ap (set c.loop-m.out c.loop-m.n) c.origin.ensures)) s)
+    let written : c.put.new.out ≡ set c.loop-m.out c.loop-m.n (origin_at ns (c.loop-m.m + 1)) = search rules in
+    (omega arith, c.if-advance.ensures.room, c.if-advance.ensures.marks, subst (Sofar ns q c.args.out.now (c.loop-m.m + 1) (c.loop-m.n + 1)) (sym written) s)
 
 pub loop-m-preserved : goal.loop-m-preserved
 loop-m-preserved g c = (
