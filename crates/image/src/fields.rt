@@ -6,9 +6,9 @@ ghost use Rattle.tree.specs.Nodes.{shape};
 ghost use Rattle.stored.specs.Openings.{count_at, name_field_at, names_at, in_turn, node_field_at, nodes_at, all_nodes_at, body_at};
 ghost use Rattle.image.specs.Fields.{body_told, names_told, rest_told, nodes_told};
 
-use names::good::stands_apart;
+use names::list::methods::stands_apart;
 use stored::fault::ImageFault;
-use tree::reads::may_follow;
+use tree::table::methods::may_follow;
 
 pub const MOST_NAMES: u16 = 512;
 

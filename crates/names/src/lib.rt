@@ -4,6 +4,5 @@
 pub mod bytes;
 pub mod class;
 pub mod find;
-pub mod good;
 pub mod list;
 pub mod scan;

@@ -1,14 +1,40 @@
 // Making a name list, and what it answers.
 ghost use Rattle.std.specs.Prelude.{◌≡◌, [], length};
 ghost use Rattle.std.specs.Option.{option_map};
-ghost use Rattle.names.specs.Lists.{texts, Numbered, number_of, apart};
+ghost use Rattle.names.specs.Lists.{texts, Numbered, number_of, word, short_name, good_beside, apart};
 ghost use Rattle.names.specs.NameLists.{listed, named, Sets};
 
 use super::{NONE, NameList, NoNameList};
+use crate::bytes::starts_name;
+use crate::class::{NameByte, past};
 use crate::find::find;
-use crate::good::stands_apart;
 
 const MOST_NAMES: usize = 512;
+
+const MOST_BYTES: usize = 64;
+
+fn is_name(name: &[u8]) -> bool
+    ensures { result ≡ word name.now }
+{
+    match name {
+        [first, rest @ ..] => starts_name(*first) && past(&NameByte, rest).len() == 0,
+        [] => false,
+    }
+}
+
+// Whether this is a well-formed name of at most 64 bytes.
+fn is_short_name(name: &[u8]) -> bool
+    ensures { result ≡ short_name name.now }
+{
+    is_name(name) && name.len() <= MOST_BYTES
+}
+
+// Whether a name is good and not among the others.
+pub fn stands_apart(name: &[u8], others: &[&[u8]]) -> bool
+    ensures { result ≡ good_beside name.now (texts others.now) }
+{
+    is_short_name(name) && find(others, name) == others.len()
+}
 
 // Whether each name is good and not among those after it.
 fn all_apart(names: &[&[u8]]) -> bool

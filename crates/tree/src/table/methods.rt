@@ -1,17 +1,26 @@
 // Setting a table, and what it answers.
 ghost use Rattle.std.specs.Prelude.{◌≡◌, ℕ, ◌≤◌, List, [], ◌∷◌, length};
-ghost use Rattle.tree.specs.Nodes.{Node, node_limit, label_at, depth_at};
+ghost use Rattle.tree.specs.Nodes.{Node, node_limit, shape, label_at, depth_at};
 ghost use Rattle.tree.specs.Slots.{numbered, wrong_slot};
 ghost use Rattle.tree.specs.Tables.{shown, Sets};
 ghost use Rattle.tree.specs.Laws.{lawful_laws};
 
 use super::{ONE, Table};
 use crate::fault::TableFault;
-use crate::reads::may_follow;
 use crate::slot::Slot;
 use crate::trees::Tree;
 
 const MOST_NODES: usize = 4096;
+
+const MOST_DEPTH: u16 = 64;
+
+// Whether a node with this label and depth may come after one of depth `before`, or first where that is 0.
+pub fn may_follow(before: u16, label: u16, depth: u16) -> bool
+    ensures { result ≡ shape before label depth }
+{
+    let least = if before == 0 { 1 } else { 2 };
+    label >= 1 && depth >= least && depth <= MOST_DEPTH && depth - 1 <= before
+}
 
 // The number of the first slot that may not follow the one before it, or 0.
 fn first_wrong(slots: &[Slot]) -> u16

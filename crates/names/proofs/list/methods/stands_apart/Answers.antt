@@ -1,7 +1,7 @@
 use Rattle.std.proofs.Common.{ℕ, Bool, ◌&&◌, eqb, length, sym, ap, ◌∙◌, ap₂}
 use lib.ListN.{length-map}
 use Rattle.names.specs.Lists.{texts, before}
-use Rattle.names.proofs.good.stands_apart.Goals as goal
+use Rattle.names.proofs.list.methods.stands_apart.Goals as goal
 
 pub returns-then-is_short_name : goal.returns-then-is_short_name
 returns-then-is_short_name c =

@@ -1,6 +1,6 @@
 use Rattle.std.proofs.Common.{sym, ◌∙◌, arith, ltb-false, ltb-true}
 use Rattle.names.proofs.Names.{word_yes, word_no}
-use Rattle.names.proofs.good.is_name.Goals as goal
+use Rattle.names.proofs.list.methods.is_name.Goals as goal
 
 pub returns-then-starts_name : goal.returns-then-starts_name
 returns-then-starts_name c = word_yes c.args.name.now (omega (arith, ltb-true, ltb-false)) c.past.result.now (sym c.if-starts_name.ensures) c.past.ensures
