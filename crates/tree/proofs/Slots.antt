@@ -1,13 +1,16 @@
 -- The first wrong slot, and the nodes of slots.
-use Rattle.std.proofs.Common.{◌≡◌, ℕ, zero, suc, ◌+◌, ◌-◌, ◌<◌, ◌≤◌, Bool, true, false, cond, ◌⊎◌, List, [], ◌∷◌, ◌++◌, length, get_or, take, drop, Ok, Err, Result, sym, refl, ap, ◌∙◌, subst, inl, inr, add-one, arith}
-use Rattle.std.proofs.lemmas.List.{get_or_past, take_more, at_drop_more, at_drop_all}
-use Rattle.std.proofs.lemmas.Bool.{le-leb, lt-ltb, and_from, and_parts, both_ways, cond-true, cond-false}
+use Rattle.std.specs.List.{slice_get}
+use Rattle.std.specs.Option.{option_map, unwrap_or}
+use Rattle.std.proofs.Common.{Option, Some, None, ◌≡◌, ℕ, zero, suc, ◌+◌, ◌-◌, ◌<◌, ◌≤◌, Bool, true, false, cond, List, [], ◌∷◌, ◌++◌, length, get_or, take, Ok, Err, Result, sym, refl, ap, ◌∙◌, subst, add-one, arith}
+use Rattle.std.proofs.lemmas.List.{take_more}
+use Rattle.std.proofs.lemmas.Option.{none-some}
+use Rattle.std.proofs.lemmas.Bool.{le-leb, lt-ltb, and_from, and_parts, both_ways}
 use Rattle.tree.specs.Nodes.{Node, Laws, node_limit, nowhere, count, node_at, shape, chain, lawful}
 use Rattle.tree.specs.declared.fault.TableFault.{TableFault}
 use Rattle.tree.specs.declared.fault.TableFault.TheVariants.{NoTree}
 use Rattle.tree.specs.Tables.{Wrong, Sets}
 use Rattle.tree.specs.Laws.{Follows, FirstWrong, follows_parts, follows_from, laws_follow}
-use Rattle.tree.specs.Slots.{node, numbered, wrong, wrong_slot}
+use Rattle.tree.specs.Slots.{node, numbered, slot_at, wrong, wrong_slot}
 use Rattle.tree.specs.declared.slot.Slot.{Slot}
 
 pub length_numbered : (i : ℕ) (ss : List Slot) → length (numbered i ss) ≡ length ss
@@ -20,17 +23,17 @@ numbered_at i (s ∷ ss) zero d l = let e : i ≡ i + 0 = omega arith in ap (λ 
 numbered_at i (s ∷ ss) (suc k) d l = let e : suc i + k ≡ i + suc k = omega arith in numbered_at (suc i) ss k d (omega arith) ∙ ap (λ (j : ℕ). node j (get_or ss k d)) e
 
 right_step : (p : Node) (s : Slot) (ss : List Slot) (b : Bool) → shape p.depth s.label s.depth ≡ b → p.origin + length (s ∷ ss) ≤ 65535
-    → wrong p.depth (suc p.origin) (s ∷ ss) ≡ 0
-    → (wrong s.depth (suc (suc p.origin)) ss ≡ 0 → chain (node (suc p.origin) s) (numbered (suc (suc p.origin)) ss) ≡ true)
+    → wrong p.depth (suc p.origin) (s ∷ ss) ≡ None
+    → (wrong s.depth (suc (suc p.origin)) ss ≡ None → chain (node (suc p.origin) s) (numbered (suc (suc p.origin)) ss) ≡ true)
     → chain p (numbered (suc p.origin) (s ∷ ss)) ≡ true
 right_step p s ss true e m h rest = and_from _ _
     (and_from _ _ e (and_from _ _ (lt-ltb p.origin (suc p.origin) (omega arith)) (le-leb (suc p.origin) 65535 (omega arith))))
-    (rest (subst (λ (b : Bool). cond b (wrong s.depth (suc (suc p.origin)) ss) (suc p.origin) ≡ 0) e h))
+    (rest (subst (λ (b : Bool). cond b (wrong s.depth (suc (suc p.origin)) ss) (Some (suc p.origin)) ≡ None) e h))
 right_step p s ss false e m h rest =
-    absurd (let z : suc p.origin ≡ 0 = subst (λ (b : Bool). cond b (wrong s.depth (suc (suc p.origin)) ss) (suc p.origin) ≡ 0) e h in omega arith)
+    absurd (none-some (suc p.origin) (sym (subst (λ (b : Bool). cond b (wrong s.depth (suc (suc p.origin)) ss) (Some (suc p.origin)) ≡ None) e h)))
 
 -- slots with no wrong one are a chain of nodes
-pub right_chain : (p : Node) (ss : List Slot) → p.origin + length ss ≤ 65535 → wrong p.depth (suc p.origin) ss ≡ 0 → chain p (numbered (suc p.origin) ss) ≡ true
+pub right_chain : (p : Node) (ss : List Slot) → p.origin + length ss ≤ 65535 → wrong p.depth (suc p.origin) ss ≡ None → chain p (numbered (suc p.origin) ss) ≡ true
 right_chain p [] m h = refl
 right_chain p (s ∷ ss) m h = right_step p s ss (shape p.depth s.label s.depth) refl m h (λ r. right_chain (node (suc p.origin) s) ss (omega arith) r)
 
@@ -48,8 +51,8 @@ wrong_later p s ss k f w = record { within = omega (arith, w.within); before = b
     before (suc j) l = w.before j (omega arith)
 
 wrong_step_at : (p : Node) (s : Slot) (ss : List Slot) (w : ℕ) (b : Bool) → shape p.depth s.label s.depth ≡ b → p.origin + length (s ∷ ss) ≤ 65535
-    → cond b (wrong s.depth (suc (suc p.origin)) ss) (suc p.origin) ≡ w
-    → (wrong s.depth (suc (suc p.origin)) ss ≡ w → (k : ℕ) × (w ≡ suc (suc p.origin) + k) × WrongAt (node (suc p.origin) s) ss k)
+    → cond b (wrong s.depth (suc (suc p.origin)) ss) (Some (suc p.origin)) ≡ Some w
+    → (wrong s.depth (suc (suc p.origin)) ss ≡ Some w → (k : ℕ) × (w ≡ suc (suc p.origin) + k) × WrongAt (node (suc p.origin) s) ss k)
     → (k : ℕ) × (w ≡ suc p.origin + k) × WrongAt p (s ∷ ss) k
 wrong_step_at p s ss w true e m h rest =
     let r = rest h in (
@@ -59,11 +62,11 @@ wrong_step_at p s ss w true e m h rest =
           (follows_parts p (node (suc p.origin) s) (and_from _ _ e (and_from _ _ (lt-ltb p.origin (suc p.origin) (omega arith)) (le-leb (suc p.origin) 65535 (omega arith))))) r.2,
     )
 wrong_step_at p s ss w false e m h rest =
-    (0, omega (arith, h), record { within = omega arith; before = λ j l. absurd (omega arith); here = λ f. both_ways _ e (and_parts (shape p.depth s.label s.depth) _ (follows_from p (node (suc p.origin) s) f)).0 })
+    (0, omega (arith, ap (λ (o : Option ℕ). unwrap_or o 0) h), record { within = omega arith; before = λ j l. absurd (omega arith); here = λ f. both_ways _ e (and_parts (shape p.depth s.label s.depth) _ (follows_from p (node (suc p.origin) s) f)).0 })
 
-wrong_at : (p : Node) (ss : List Slot) (w : ℕ) → p.origin + length ss ≤ 65535 → wrong p.depth (suc p.origin) ss ≡ w → 1 ≤ w → (k : ℕ) × (w ≡ suc p.origin + k) × WrongAt p ss k
-wrong_at p [] w m h l = absurd (omega arith)
-wrong_at p (s ∷ ss) w m h l = wrong_step_at p s ss w (shape p.depth s.label s.depth) refl m h (λ r. wrong_at (node (suc p.origin) s) ss w (omega arith) r l)
+wrong_at : (p : Node) (ss : List Slot) (w : ℕ) → p.origin + length ss ≤ 65535 → wrong p.depth (suc p.origin) ss ≡ Some w → (k : ℕ) × (w ≡ suc p.origin + k) × WrongAt p ss k
+wrong_at p [] w m h = absurd (none-some w h)
+wrong_at p (s ∷ ss) w m h = wrong_step_at p s ss w (shape p.depth s.label s.depth) refl m h (λ r. wrong_at (node (suc p.origin) s) ss w (omega arith) r)
 
 wrong_before : (ss : List Slot) (k : ℕ) → WrongAt nowhere ss k → (j : ℕ) → 1 ≤ j → j < suc k → Follows (node_at (numbered 1 ss) (j - 1)) (node_at (numbered 1 ss) j)
 wrong_before ss k w zero a b = absurd (omega arith)
@@ -82,55 +85,30 @@ wrong_first ss k w =
     }
 
 -- the number that is answered is that of the first wrong node
-pub first_wrong : (ss : List Slot) (w : ℕ) → length ss ≤ node_limit → w ≡ wrong_slot ss → (w ≡ 0 → ⊥) → FirstWrong (numbered 1 ss) w
-first_wrong ss w m h n =
-    let one : 1 ≤ w = omega arith in
-    let r = wrong_at nowhere ss w (omega arith) (sym h) one in
+pub first_wrong : (ss : List Slot) (w : ℕ) → 1 ≤ length ss → length ss ≤ node_limit → Some w ≡ wrong_slot ss → Wrong ss w
+first_wrong ss w l m h =
+    let r = wrong_at nowhere ss w (omega arith) (sym h) in
     let e : w ≡ suc r.0 = omega (arith, r.1) in
-    subst (FirstWrong (numbered 1 ss)) (sym e) (wrong_first ss r.0 r.2)
+    subst (Wrong ss) (sym e) (l, m, wrong_first ss r.0 r.2)
 
-pub right_lawful : (ss : List Slot) → 1 ≤ length ss → length ss ≤ node_limit → wrong_slot ss ≡ 0 → lawful node_limit (numbered 1 ss) ≡ true
+pub right_lawful : (ss : List Slot) → 1 ≤ length ss → length ss ≤ node_limit → wrong_slot ss ≡ None → lawful node_limit (numbered 1 ss) ≡ true
 unfolding lawful
 right_lawful ss a b h =
     let e = length_numbered 1 ss in
     and_from _ _ (le-leb 1 (length (numbered 1 ss)) (omega arith)) (and_from _ _ (le-leb (length (numbered 1 ss)) node_limit (omega arith)) (right_chain nowhere ss (omega arith) h))
 
-abbrev none : Slot
-none = record { label = 0; depth = 0; place = 0 }
+shown_from : (i : ℕ) (ss : List Slot) (k : ℕ) → unwrap_or (option_map (node (i + k)) (slice_get ss k)) nowhere ≡ get_or (numbered i ss) k nowhere
+shown_from i [] k = refl
+shown_from i (s ∷ ss) zero = let e : i + 0 ≡ i = omega arith in ap (λ (j : ℕ). node j s) e
+shown_from i (s ∷ ss) (suc k) = let e : i + suc k ≡ suc i + k = omega arith in ap (λ (j : ℕ). unwrap_or (option_map (node j) (slice_get ss k)) nowhere) e ∙ shown_from (suc i) ss k
 
-module _ (d i : ℕ) (ss : List Slot) (k : ℕ) (l : k < length ss) where
-  wrong_step : wrong d i (drop k ss) ≡ cond (shape d (get_or ss k none).label (get_or ss k none).depth) (wrong (get_or ss k none).depth (suc i) (drop (k + 1) ss)) i
-  wrong_step = at_drop_more (wrong d i) ss k none l
-
-  pub wrong_here : shape d (get_or ss k none).label (get_or ss k none).depth ≡ false → wrong d i (drop k ss) ≡ i
-  wrong_here h = wrong_step ∙ cond-false (shape d (get_or ss k none).label (get_or ss k none).depth) _ _ h
-
-  pub wrong_next : shape d (get_or ss k none).label (get_or ss k none).depth ≡ true → wrong d i (drop k ss) ≡ wrong (get_or ss k none).depth (suc i) (drop (k + 1) ss)
-  wrong_next h = wrong_step ∙ cond-true (shape d (get_or ss k none).label (get_or ss k none).depth) _ _ h
-
-pub wrong_end : (d i : ℕ) (ss : List Slot) (k : ℕ) → length ss ≤ k → wrong d i (drop k ss) ≡ 0
-wrong_end d i ss k l = at_drop_all (wrong d i) ss k l
-
--- a number that no node has
-pub node_none : (ns : List Node) (k : ℕ) → (k ≡ 0) ⊎ (length ns < k) → node_at ns k ≡ nowhere
-node_none ns zero h = refl
-node_none ns (suc k) (inl e) = absurd (omega arith)
-node_none ns (suc k) (inr l) = get_or_past ns k nowhere (omega arith)
-
-pub node_of_slot : (ss : List Slot) (k : ℕ) → (k ≡ 0 → ⊥) → k ≤ length ss → node_at (numbered 1 ss) k ≡ node k (get_or ss (k - 1) none)
-node_of_slot ss zero n l = absurd (n refl)
-node_of_slot ss (suc k) n l =
-    let e : 1 + k ≡ suc k = omega arith in
-    let f : k ≡ suc k - 1 = omega arith in
-    numbered_at 1 ss k none (omega arith) ∙ ap (λ (j : ℕ). node j (get_or ss k none)) e ∙ ap (λ (j : ℕ). node (suc k) (get_or ss j none)) f
-
-pub origin_of_slot : (ss : List Slot) (k : ℕ) → k ≤ length ss → k ≡ (node_at (numbered 1 ss) k).origin
-origin_of_slot ss zero l = refl
-origin_of_slot ss (suc k) l = sym (ap (λ (n : Node). n.origin) (node_of_slot ss (suc k) (λ e. omega arith) l))
-
-pub wrong_is : (ss : List Slot) (w : ℕ) → (w ≡ 0 → ⊥) → 1 ≤ length ss → length ss ≤ node_limit → FirstWrong (numbered 1 ss) w → Wrong ss w
-wrong_is ss zero n a b h = absurd (n refl)
-wrong_is ss (suc k) n a b h = (a, b, h)
+-- the node k is that of the slot k, if there is one
+pub node_shown : (ss : List Slot) (k : ℕ) (o : Option Slot) → o ≡ slot_at ss k → unwrap_or (option_map (node k) o) nowhere ≡ node_at (numbered 1 ss) k
+node_shown ss zero o h = ap (λ (o : Option Slot). unwrap_or (option_map (node 0) o) nowhere) h
+node_shown ss (suc k) o h =
+    let e : suc k ≡ 1 + k = omega arith in
+    ap (λ (o : Option Slot). unwrap_or (option_map (node (suc k)) o) nowhere) h
+    ∙ ap (λ (j : ℕ). unwrap_or (option_map (node j) (slice_get ss k)) nowhere) e ∙ shown_from 1 ss k
 
 -- slots that are a tree are not refused
 pub never_wrong : (ss : List Slot) (k : ℕ) → Laws node_limit (numbered 1 ss) → Wrong ss k → ⊥

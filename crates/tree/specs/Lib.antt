@@ -6,3 +6,4 @@ pub mod Stacks
 pub mod Tables
 pub mod Paths
 pub mod XPath
+pub mod Told

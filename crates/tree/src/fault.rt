@@ -1,7 +1,7 @@
 // Why a table refuses slots.
 ghost use Rattle.tree.specs.Faults.{number, place};
 
-use crate::refusal::Refusal;
+use crate::refusal::{Refusal, Told};
 
 #[derive(Clone, Copy, Debug, PartialEq, Drop)]
 pub enum TableFault {
@@ -14,13 +14,11 @@ impl Refusal for TableFault {
 
     ghost at = { place };
 
-    fn number(&self) -> u8 {
-        let TableFault::NoTree(_) = *self;
-        21
-    }
-
-    fn place(&self) -> u32 {
+    fn told(&self) -> Told {
         let TableFault::NoTree(node) = *self;
-        node as u32
+        Told {
+            number: 21,
+            place: node as u32,
+        }
     }
 }

@@ -4,7 +4,6 @@
 pub mod fault;
 pub mod laws;
 pub mod node;
-pub mod reads;
 pub mod refusal;
 pub mod slot;
 pub mod stack;

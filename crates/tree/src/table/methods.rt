@@ -1,12 +1,13 @@
 // Setting a table, and what it answers.
 ghost use Rattle.std.specs.Prelude.{◌≡◌, ℕ, ◌≤◌, List, [], ◌∷◌, length};
-ghost use Rattle.tree.specs.Nodes.{Node, node_limit, shape, label_at, depth_at};
-ghost use Rattle.tree.specs.Slots.{numbered, wrong_slot};
+ghost use Rattle.tree.specs.Nodes.{Node as Entry, node_limit, shape};
+ghost use Rattle.tree.specs.Slots.{numbered, slot_at, wrong_slot};
 ghost use Rattle.tree.specs.Tables.{shown, Sets};
 ghost use Rattle.tree.specs.Laws.{lawful_laws};
 
 use super::{ONE, Table};
 use crate::fault::TableFault;
+use crate::node::Node;
 use crate::slot::Slot;
 use crate::trees::Tree;
 
@@ -22,21 +23,19 @@ pub fn may_follow(before: u16, label: u16, depth: u16) -> bool
     label >= 1 && depth >= least && depth <= MOST_DEPTH && depth - 1 <= before
 }
 
-// The number of the first slot that may not follow the one before it, or 0.
-fn first_wrong(slots: &[Slot]) -> u16
+// The number of the first slot that may not follow the one before it.
+fn first_wrong(slots: &[Slot]) -> Option<u16>
     requires { length slots.now ≤ node_limit }
     ensures { result ≡ wrong_slot slots.now }
 {
-    let mut before: u16 = 0;
-    let mut at: u16 = 0;
-    for slot in slots {
-        at += 1;
+    let mut before = 0;
+    for (at, slot) in slots.iter().enumerate() {
         if !may_follow(before, slot.label, slot.depth) {
-            return at;
+            return Some(at as u16 + 1);
         }
         before = slot.depth;
     }
-    0
+    None
 }
 
 impl<'a> Table<'a> {
@@ -47,20 +46,11 @@ impl<'a> Table<'a> {
         Table { slots: &ONE }
     }
 
-    // The slot of a node, or an empty one for a number that no node has.
-    fn slot(&self, node: u16) -> Slot
-        ensures label { result.label ≡ label_at (numbered 1 (shown self.now)) node }
-        ensures depth { result.depth ≡ depth_at (numbered 1 (shown self.now)) node }
+    fn slot(&self, number: u16) -> Option<Slot>
+        ensures { result ≡ slot_at (shown self.now) number }
     {
-        let count = self.slots.len();
-        if node == 0 || node as usize > count {
-            return Slot {
-                label: 0,
-                depth: 0,
-                place: 0,
-            };
-        }
-        self.slots[node as usize - 1]
+        let at = number.checked_sub(1)?;
+        self.slots.get(at as usize).copied()
     }
 
     // Shows these slots from now on, or refuses them and shows what it showed.
@@ -70,8 +60,7 @@ impl<'a> Table<'a> {
         if slots.len() == 0 || slots.len() > MOST_NODES {
             return Err(TableFault::NoTree(0));
         }
-        let wrong = first_wrong(slots);
-        if wrong != 0 {
+        if let Some(wrong) = first_wrong(slots) {
             return Err(TableFault::NoTree(wrong));
         }
         self.slots = slots;
@@ -88,19 +77,10 @@ impl<'a> Tree for Table<'a> {
         self.slots.len() as u16
     }
 
-    fn label(&self, node: u16) -> u16 {
-        self.slot(node).label
-    }
-
-    fn depth(&self, node: u16) -> u16 {
-        self.slot(node).depth
-    }
-
-    fn origin(&self, node: u16) -> u16 {
-        if node as usize <= self.slots.len() {
-            node
-        } else {
-            0
+    fn node(&self, number: u16) -> Node {
+        match self.slot(number) {
+            Some(slot) => slot.node(number),
+            None => Node::default(),
         }
     }
 }

@@ -1,6 +1,6 @@
 use Rattle.std.proofs.Common.{◌≡◌, suc, drop}
-use Rattle.tree.specs.Slots.{wrong}
+use Rattle.tree.specs.Slots.{wrong, wrong_slot}
 use Rattle.tree.proofs.table.methods.first_wrong.Given as goal
 
-abbrev pub invariant-loop-slot : goal.invariant-loop-slot
-invariant-loop-slot l = (l.at ≡ l.slot-index) × (wrong l.before (suc l.at) (drop l.slot-index l.slots) ≡ wrong 0 1 l.slots)
+abbrev pub invariant-loop-at : goal.invariant-loop-at
+invariant-loop-at l = wrong l.before (suc l.at) (drop l.at l.slots) ≡ wrong_slot l.slots
