@@ -1,15 +1,16 @@
 -- The test of a name list and what it stands for.
-use Rattle.std.proofs.Common.{◌≡◌, ℕ, zero, suc, ◌+◌, ◌-◌, ◌<◌, ◌≤◌, Bool, true, false, cond, ◌&&◌, eqb, ltb, leb, ◌⊎◌, List, [], ◌∷◌, length, get_or, take, drop, Some, None, Ok, Err, Result, sym, refl, ap, ◌∙◌, subst, inl, inr, ⊎_elim, add-one, arith, Bor}
+use Rattle.std.proofs.Common.{◌≡◌, ℕ, zero, suc, ◌+◌, ◌-◌, ◌<◌, ◌≤◌, Bool, true, false, not, cond, ◌&&◌, eqb, ltb, leb, List, [], ◌∷◌, length, get_or, take, drop, Option, Some, None, Ok, Err, Result, sym, refl, ap, ◌∙◌, subst, ⊎_elim, add-one, arith, Bor}
 use Rattle.std.specs.List.{AllByRecursion}
+use Rattle.std.specs.Option.{option_map, is_some}
 use Rattle.std.specs.Str.{bytes_eq}
 use Rattle.std.proofs.lemmas.List.{take_rest}
 use Rattle.std.proofs.lemmas.Slice.Eq.{bytes_eq-Decides}
 use Rattle.std.proofs.lemmas.Bool.{cond-true, cond-false, eq-eqb, ne_eqb, eqb-true, le-leb, leb-true, lt-ltb, le-ltb, and_parts, and_from, both_ways, cases_lt}
 use Rattle.names.specs.declared.list.NoNameList.{NoNameList}
-use Rattle.names.specs.NameLists.{named, Sets}
+use Rattle.names.specs.NameLists.{Sets}
 use Rattle.names.specs.Bytes.{name_start, name_byte}
 use Rattle.names.specs.Words.{Word, after}
-use Rattle.names.specs.Lists.{texts, before, number_of, Numbered, ShortName, IsNameList, all_in, word, short_name, good_beside, apart, name_list}
+use Rattle.names.specs.Lists.{texts, before, place_of, number_in, number_of, NumberedIn, ShortName, IsNameList, all_in, word, short_name, good_beside, apart, name_list}
 use Rattle.names.proofs.Finds.{before_le}
 use Rattle.names.proofs.Runs.{at_first}
 
@@ -108,10 +109,14 @@ list_from ms l h = and_from (leb (length ms) 512) (apart ms) (le-leb (length ms)
 pub list_apart : (ms : List (List ℕ)) → IsNameList ms → apart ms ≡ true
 list_apart ms l = apart_from ms l.names l.distinct
 
-pub numbered : (n : List ℕ) (ms : List (List ℕ)) → Numbered ms n (number_of n ms)
-numbered n ms = ⊎_elim
-    (λ (l : before n ms < length ms). subst (Numbered ms n) (sym (cond-true (ltb (before n ms) (length ms)) (suc (before n ms)) 0 (lt-ltb (before n ms) (length ms) l))) (l, before_is n ms l))
-    (λ (l : length ms ≤ before n ms). subst (Numbered ms n) (sym (cond-false (ltb (before n ms) (length ms)) (suc (before n ms)) 0 (le-ltb (before n ms) (length ms) l))) (λ k h e. omega (arith, before_first n ms k h e)))
+not_not : (b c : Bool) → b ≡ not c → c ≡ not b
+not_not b true e = ap not (sym e)
+not_not b false e = ap not (sym e)
+
+pub numbered_in : (n : List ℕ) (ms : List (List ℕ)) → NumberedIn ms n (number_in n ms)
+numbered_in n ms = ⊎_elim
+    (λ (l : before n ms < length ms). subst (λ o. NumberedIn ms n (option_map suc o)) (sym (cond-true (ltb (before n ms) (length ms)) (Some (before n ms)) None (lt-ltb (before n ms) (length ms) l))) (omega arith, (l, before_is n ms l)))
+    (λ (l : length ms ≤ before n ms). subst (λ o. NumberedIn ms n (option_map suc o)) (sym (cond-false (ltb (before n ms) (length ms)) (Some (before n ms)) None (le-ltb (before n ms) (length ms) l))) (λ k h e. omega (arith, before_first n ms k h e)))
     (cases_lt (before n ms) (length ms))
 
 module _ (n : List ℕ) (ms : List (List ℕ)) where
@@ -121,17 +126,15 @@ module _ (n : List ℕ) (ms : List (List ℕ)) where
   pub number_none : length ms ≤ before n ms → 0 ≡ number_of n ms
   number_none l = sym (cond-false (ltb (before n ms) (length ms)) (suc (before n ms)) 0 (le-ltb (before n ms) (length ms) l))
 
--- the name with a number
-pub named_none : (ms : List (List ℕ)) (k : ℕ) → (k ≡ 0) ⊎ (length ms < k) → None ≡ named ms k
-named_none ms zero h = refl
-named_none ms (suc k) (inl e) = absurd (omega arith)
-named_none ms (suc k) (inr l) = sym (cond-false (ltb k (length ms)) (Some (get_or ms k [])) None (le-ltb k (length ms) (omega arith)))
+  -- a name is beside others where a search for it finds none
+  none_found : not (is_some (place_of n ms)) ≡ eqb (before n ms) (length ms)
+  none_found = ⊎_elim
+      (λ (l : before n ms < length ms). ap (λ o. not (is_some o)) (cond-true (ltb (before n ms) (length ms)) (Some (before n ms)) None (lt-ltb (before n ms) (length ms) l)) ∙ sym (ne_eqb (before n ms) (length ms) (λ e. omega arith)))
+      (λ (l : length ms ≤ before n ms). ap (λ o. not (is_some o)) (cond-false (ltb (before n ms) (length ms)) (Some (before n ms)) None (le-ltb (before n ms) (length ms) l)) ∙ sym (eq-eqb (before n ms) (length ms) (omega (arith, before_le n ms))))
+      (cases_lt (before n ms) (length ms))
 
-pub named_some : (ms : List (List ℕ)) (k : ℕ) → 1 ≤ k → k ≤ length ms → Some (get_or ms (k - 1) []) ≡ named ms k
-named_some ms zero a b = absurd (omega arith)
-named_some ms (suc k) a b =
-    let e : suc k - 1 ≡ k = omega arith in
-    ap (λ (j : ℕ). Some (get_or ms j [])) e ∙ sym (cond-true (ltb k (length ms)) (Some (get_or ms k [])) None (lt-ltb k (length ms) (omega arith)))
+  pub beside_none : (o : Option ℕ) (r : Bool) → is_some o ≡ not r → o ≡ place_of n ms → r ≡ eqb (before n ms) (length ms)
+  beside_none o r e f = not_not (is_some o) r e ∙ ap (λ o. not (is_some o)) f ∙ none_found
 
 -- a list of references, by its first
 pub first_and_others : (rs : List (Bor (List ℕ))) (d : Bor (List ℕ)) → 1 ≤ length rs → rs ≡ get_or rs 0 d ∷ take (length rs - 1) (drop 1 rs)

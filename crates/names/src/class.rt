@@ -1,9 +1,9 @@
 // A class of bytes, and the run of such bytes that a text begins with.
 ghost use Rattle.std.specs.Prelude.{◌≡◌, ℕ, Bool};
-ghost use Rattle.names.specs.Bytes.{white, name_byte};
-ghost use Rattle.names.specs.Words.{after};
+ghost use Rattle.names.specs.Bytes.{white, name_start, name_byte};
+ghost use Rattle.names.specs.Words.{after, begins as begins_with};
 
-use crate::bytes::{continues_name, is_white};
+use crate::bytes::{continues_name, is_white, starts_name};
 
 pub trait Class {
     ghost member: { Self → ℕ → Bool };
@@ -16,6 +16,9 @@ pub trait Class {
 pub struct White;
 
 #[derive(Clone, Copy, Drop)]
+pub struct NameStart;
+
+#[derive(Clone, Copy, Drop)]
 pub struct NameByte;
 
 impl Class for White {
@@ -26,11 +29,29 @@ impl Class for White {
     }
 }
 
+impl Class for NameStart {
+    ghost member = { λ _. name_start };
+
+    fn has(&self, b: u8) -> bool {
+        starts_name(b)
+    }
+}
+
 impl Class for NameByte {
     ghost member = { λ _. name_byte };
 
     fn has(&self, b: u8) -> bool {
         continues_name(b)
+    }
+}
+
+// Whether the text begins with a byte of the class.
+pub fn begins<C: Class>(class: &C, text: &[u8]) -> bool
+    ensures { result ≡ begins_with (C.Class.member class.now) text.now }
+{
+    match text {
+        [b, ..] => class.has(*b),
+        [] => false,
     }
 }
 

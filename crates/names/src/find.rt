@@ -1,17 +1,11 @@
 // Finding a name among names.
-ghost use Rattle.std.specs.Prelude.{◌≡◌};
-ghost use Rattle.names.specs.Lists.{texts, before as before_of};
+ghost use Rattle.std.specs.Prelude.{◌≡◌, position};
+ghost use Rattle.std.specs.Str.{bytes_eq};
+ghost use Rattle.names.specs.Lists.{texts, place_of};
 
-// How many names stand before the first that is `name`; all of them where none is.
-pub fn find(names: &[&[u8]], name: &[u8]) -> usize
-    ensures { result ≡ before_of name.now (texts names.now) }
+// The place of the first name that is `name`.
+pub fn find(names: &[&[u8]], name: &[u8]) -> Option<usize>
+    ensures { result ≡ position (λ x. bytes_eq x.now name.now) names.now }
 {
-    let mut before = 0;
-    for each in names {
-        if *each == name {
-            return before;
-        }
-        before += 1;
-    }
-    before
+    names.iter().position(|each| *each == name)
 }

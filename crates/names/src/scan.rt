@@ -1,19 +1,9 @@
 // The name that a text begins with.
 ghost use Rattle.std.specs.Prelude.{◌≡◌};
-ghost use Rattle.names.specs.Bytes.{name_start, name_byte};
-ghost use Rattle.names.specs.Words.{after, front, begins as begins_with};
+ghost use Rattle.names.specs.Bytes.{name_byte};
+ghost use Rattle.names.specs.Words.{after, front};
 
-use crate::bytes::starts_name;
 use crate::class::{NameByte, past};
-
-pub fn begins_name(text: &[u8]) -> bool
-    ensures { result ≡ begins_with name_start text.now }
-{
-    match text {
-        [b, ..] => starts_name(*b),
-        [] => false,
-    }
-}
 
 // The name as long as it goes, and what follows it.
 pub fn split_name<'a>(text: &'a [u8]) -> (&'a [u8], &'a [u8])

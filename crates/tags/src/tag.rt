@@ -7,24 +7,15 @@ ghost use Rattle.tags.specs.Tokens.{shown, found};
 
 use crate::scan::past_attribute;
 use crate::token::{Tag, Token};
-use names::bytes::{is_white, starts_name};
-use names::class::{White, past};
-use names::scan::{begins_name, split_name};
-
-fn begins_white(text: &[u8]) -> bool
-    ensures { result ≡ begins_with white text.now }
-{
-    match text {
-        [b, ..] => is_white(*b),
-        [] => false,
-    }
-}
+use names::bytes::starts_name;
+use names::class::{NameStart, White, begins, past};
+use names::scan::split_name;
 
 // Whether an attribute begins the text, of which `named` is what follows the white.
 fn begins_attribute(text: &[u8], named: &[u8]) -> bool
     ensures { result ≡ (begins_with white text.now && begins_with name_start named.now) }
 {
-    begins_white(text) && begins_name(named)
+    begins(&White, text) && begins(&NameStart, named)
 }
 
 fn past_attributes<'a>(text: &'a [u8]) -> Option<&'a [u8]>
@@ -62,7 +53,7 @@ fn opening<'a>(text: &'a [u8], place: usize) -> Option<(Token<'a>, &'a [u8])>
 fn ending<'a>(text: &'a [u8], place: usize) -> Option<(Token<'a>, &'a [u8])>
     ensures { found result ≡ placed place (ending_of text.now) }
 {
-    if !begins_name(text) {
+    if !begins(&NameStart, text) {
         return None;
     }
     let (name, rest) = split_name(text);

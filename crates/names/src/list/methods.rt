@@ -1,7 +1,7 @@
 // Making a name list, and what it answers.
 ghost use Rattle.std.specs.Prelude.{◌≡◌, [], length};
 ghost use Rattle.std.specs.Option.{option_map};
-ghost use Rattle.names.specs.Lists.{texts, Numbered, number_of, word, short_name, good_beside, apart};
+ghost use Rattle.names.specs.Lists.{texts, NumberedIn, number_in, word, short_name, good_beside, apart};
 ghost use Rattle.names.specs.NameLists.{listed, named, Sets};
 
 use super::{NONE, NameList, NoNameList};
@@ -17,7 +17,7 @@ fn is_name(name: &[u8]) -> bool
     ensures { result ≡ word name.now }
 {
     match name {
-        [first, rest @ ..] => starts_name(*first) && past(&NameByte, rest).len() == 0,
+        [first, rest @ ..] => starts_name(*first) && past(&NameByte, rest).is_empty(),
         [] => false,
     }
 }
@@ -33,7 +33,7 @@ fn is_short_name(name: &[u8]) -> bool
 pub fn stands_apart(name: &[u8], others: &[&[u8]]) -> bool
     ensures { result ≡ good_beside name.now (texts others.now) }
 {
-    is_short_name(name) && find(others, name) == others.len()
+    is_short_name(name) && find(others, name).is_none()
 }
 
 // Whether each name is good and not among those after it.
@@ -82,22 +82,16 @@ impl<'s, 't> NameList<'s, 't> {
     pub fn name(&self, number: u16) -> Option<&'t [u8]>
         ensures { option_map (λ x. x.now) result ≡ named (listed self.now) number }
     {
-        if number == 0 || number as usize > self.names.len() {
-            return None;
-        }
-        Some(self.names[number as usize - 1])
+        let at = number.checked_sub(1)?;
+        self.names.get(at as usize).copied()
     }
 
-    // The number of a name, from 1, or 0 where the list has no such name.
-    pub fn number(&self, name: &[u8]) -> u16
-        ensures value { result ≡ number_of name.now (listed self.now) }
-        ensures meaning { Numbered (listed self.now) name.now result }
+    // The number of a name, from 1.
+    pub fn number(&self, name: &[u8]) -> Option<u16>
+        ensures value { result ≡ number_in name.now (listed self.now) }
+        ensures meaning { NumberedIn (listed self.now) name.now result }
     {
-        let before = find(self.names, name);
-        if before < self.names.len() {
-            before as u16 + 1
-        } else {
-            0
-        }
+        let at = find(self.names, name)?;
+        Some(at as u16 + 1)
     }
 }

@@ -45,11 +45,7 @@ impl<'a, T: Copy> Stack<'a, T> {
     pub fn top(&self) -> Option<T>
         ensures { Topped (items self.now) result }
     {
-        let slots: &[T] = self.slots;
-        if self.len == 0 {
-            return None;
-        }
-        Some(slots[self.len - 1])
+        self.slots[..self.len].last().copied()
     }
 
     // Takes items off the top until at most `height` are left.

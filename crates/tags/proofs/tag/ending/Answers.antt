@@ -11,6 +11,6 @@ returns-in-62 c =
     let s = c.args.text.now in
     let rest = c.past.ensures ∙ ap (after white) c.split_name.ensures.rest in
     sym (ap (placed c.args.place)
-    (cond-true (begins name_start s) (ended (front name_byte s) (after white (after name_byte s))) None (sym c.if-not-begins_name.ensures)
+    (cond-true (begins name_start s) (ended (front name_byte s) (after white (after name_byte s))) None (sym c.if-not-begins.ensures)
     ∙ sym (ap₂ ended c.split_name.ensures.name rest)
     ∙ ended_yes c.split_name.result.0.now c.past.result.now (omega (arith, ltb-false)) (search rules)))
