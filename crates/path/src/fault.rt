@@ -1,7 +1,7 @@
 // Why a question text is refused.
 ghost use Rattle.path.specs.Faults.{number, place};
 
-use tree::refusal::Refusal;
+use tree::refusal::{Refusal, Told};
 
 // The number in a case is the byte of the text at which it is found.
 #[derive(Clone, Copy, Debug, PartialEq, Drop)]
@@ -19,19 +19,15 @@ impl Refusal for QuestionFault {
 
     ghost at = { place };
 
-    fn number(&self) -> u8 {
-        match *self {
-            QuestionFault::Length => 41,
-            QuestionFault::NoStep(_) => 42,
-            QuestionFault::TooMany(_) => 43,
-        }
-    }
-
-    fn place(&self) -> u32 {
-        match *self {
-            QuestionFault::Length => 0,
-            QuestionFault::NoStep(place) => place as u32,
-            QuestionFault::TooMany(place) => place as u32,
+    fn told(&self) -> Told {
+        let (number, place) = match *self {
+            QuestionFault::Length => (41, 0),
+            QuestionFault::NoStep(place) => (42, place),
+            QuestionFault::TooMany(place) => (43, place),
+        };
+        Told {
+            number,
+            place: u32::from(place),
         }
     }
 }

@@ -16,6 +16,9 @@ const MOST_BYTES: usize = 512;
 
 const MOST_STEPS: usize = 32;
 
+// A label that no node bears.
+const NO_LABEL: u16 = 0;
+
 fn split_axis<'a>(text: &'a [u8]) -> Option<(Axis, &'a [u8])>
     ensures { told result ≡ axis_at text.now }
 {
@@ -35,7 +38,7 @@ fn split_test<'a>(text: &'a [u8], names: &NameList<'_, '_>) -> Option<(Test, &'a
         [b'*', rest @ ..] => Some((Test::Any, rest)),
         [b, ..] if starts_name(*b) => {
             let (name, rest) = split_name(text);
-            Some((Test::Label(names.number(name)), rest))
+            Some((Test::Label(names.number(name).unwrap_or(NO_LABEL)), rest))
         }
         _ => None,
     }
@@ -59,13 +62,14 @@ pub fn read_question(
     ensures read { Read (listed names.now) text.now steps.old result steps.new }
     ensures spelled { Spelled (step_room (length steps.old)) text.now result }
 {
-    if text.len() == 0 || text.len() > MOST_BYTES {
+    if text.is_empty() || text.len() > MOST_BYTES {
         return Err(QuestionFault::Length);
     }
     let most = steps.len().min(MOST_STEPS);
     let mut rest = text;
+    // A stack over the slots would count the steps, but what lent slots hold is not told once their stack is gone.
     let mut count = 0;
-    while rest.len() > 0 {
+    while !rest.is_empty() {
         let place = (text.len() - rest.len()) as u16;
         let Some((step, behind)) = split_step(rest, names) else {
             return Err(QuestionFault::NoStep(place));
