@@ -1,8 +1,9 @@
 -- The marks of a node follow from those of its parent.
-use Rattle.std.proofs.Common.{◌≡◌, ℕ, zero, suc, ◌<◌, ◌≤◌, Bool, true, false, ◌&&◌, ◌||◌, List, [], ◌∷◌, ◌++◌, length, get_or, take, sym, refl, ap, ◌∙◌, ap₂, add-one, arith}
+use Rattle.std.proofs.Common.{◌≡◌, ℕ, zero, suc, ◌<◌, ◌≤◌, Bool, false, ◌&&◌, ◌||◌, List, [], ◌∷◌, ◌++◌, length, get_or, take, sym, refl, ap, ◌∙◌, ap₂, add-one, arith}
 use lib.Bits.{bit_or}
 use Rattle.std.proofs.lemmas.List.{take_more}
 use Rattle.std.proofs.lemmas.Bool.{ne_eqb}
+use Rattle.std.proofs.Math.Bool.{or-false}
 use Rattle.tree.specs.Nodes.{Node, count, label_at}
 use Rattle.tree.specs.Paths.{parent, member, admits, reached, chosen, select, follow, selects, root}
 use Rattle.tree.proofs.Paths.{met_up, member_in, member_out}
@@ -46,13 +47,9 @@ over_up : (ns : List Node) (q : List Step) (i k : ℕ) → 1 ≤ k → over ns q
 unfolding over ends
 over_up ns q i k l = ap (λ (b : Bool). member (selects ns (take i q)) k || b) (met_up ns (selects ns (take i q)) k l)
 
-or_false : (b : Bool) → (b || false) ≡ b
-or_false true = refl
-or_false false = refl
-
 over_document : (ns : List Node) (q : List Step) (i : ℕ) → over ns q i 0 ≡ ends ns q i 0
 unfolding over
-over_document ns q i = or_false (ends ns q i 0)
+over_document ns q i = or-false (ends ns q i 0)
 
 document_bit : (ns : List Node) (q : List Step) (i : ℕ) → i ≤ length q → bit 1 i ≡ ends ns q i 0
 unfolding ends
@@ -78,8 +75,8 @@ module _ (ns : List Node) (q : List Step) (k : ℕ) (p : Marks) (w : ℕ) (a : 1
       ∙ ap (λ (v : Bool). admits (get_or q i any_step).test (label_at ns k) && v) (axis_bit ns q k i p (get_or q i any_step).axis a (omega arith) h)
       ∙ sym (ends_next ns q i k (omega arith) a b)
 
-  pub marked_below : Marked ns q k (record { here = w; over = bit_or w p.over })
-  marked_below = record {
-    here = word_bit;
-    over = λ i l. bit_at_or w p.over i ∙ ap₂ (λ (x : Bool) (y : Bool). x || y) (word_bit i l) (h.over i l) ∙ sym (over_up ns q i k a);
+  pub marked_below : (x : Marks) → x.here ≡ w → x.over ≡ bit_or w p.over → Marked ns q k x
+  marked_below x e f = record {
+    here = λ i l. ap (λ (v : ℕ). bit v i) e ∙ word_bit i l;
+    over = λ i l. ap (λ (v : ℕ). bit v i) f ∙ bit_at_or w p.over i ∙ ap₂ (λ (x : Bool) (y : Bool). x || y) (word_bit i l) (h.over i l) ∙ sym (over_up ns q i k a);
   }

@@ -1,9 +1,12 @@
 -- The stack of marks, from node to node: it is cut down to the next node's parent, and gets the next node on top.
-use Rattle.std.proofs.Common.{◌≡◌, ℕ, suc, ◌-◌, ◌<◌, ◌≤◌, List, [], ◌∷◌, length, drop, sym, refl, ap, ◌∙◌, subst, ⊎_elim, arith}
+use Rattle.std.proofs.Common.{◌≡◌, ℕ, suc, ◌+◌, ◌-◌, ◌<◌, ◌≤◌, List, [], ◌∷◌, length, drop, Some, None, Option, sym, refl, ap, ap₂, ◌∙◌, subst, ⊎_elim, arith}
+use Rattle.std.specs.Option.{IsSome}
+use Rattle.std.proofs.lemmas.List.{length-drop}
 use Rattle.std.proofs.lemmas.Bool.{cases_lt}
 use Rattle.tree.specs.Nodes.{Node, Laws, count, depth_at}
 use Rattle.tree.specs.Laws.{laws_follow, least_low}
 use Rattle.tree.specs.Paths.{nearest, parent}
+use Rattle.tree.specs.Stacks.{Topped}
 use Rattle.tree.proofs.Paths.{nearest_here, nearest_up, parent_depth, parent_is, parent_lt}
 use Rattle.tree.specs.declared.step.Step.{Step}
 use Rattle.walk.specs.declared.marks.Marks.{Marks}
@@ -61,21 +64,29 @@ module _ (ns : List Node) (q : List Step) where
         (subst (λ (k : ℕ). Open ns q (nearest ns (h - 1) (parent ns m)) (drop k (x ∷ y ∷ st))) (sym e) (open_cut (parent ns m) h (y ∷ st) (omega arith) a g o.2)))
         (cases_lt (length (y ∷ st)) h)
 
-    -- the same for the node before m, cut to the depth d of m
-    module _ (m d : ℕ) (st kept : List Marks) (a : 1 ≤ m) (b : m ≤ count ns) (o : Open ns q (m - 1) st) (is : d ≡ depth_at ns m) where
+    -- the same for the node m, cut to the depth d of the next node k; the marks of that one's parent are on top
+    module _ (m k d : ℕ) (st kept : List Marks) (next : k ≡ m + 1) (b : k ≤ count ns) (o : Open ns q m st) (is : d ≡ depth_at ns k) (cut : kept ≡ drop (length st - d) st) where
       pub next_depth : (1 ≤ d) × (d ≤ 64) × (d ≤ length st)
       next_depth =
-          let e : suc (m - 1) ≡ m = omega arith in
-          let f = subst (λ (k : ℕ). (1 ≤ depth_at ns k) × (depth_at ns k ≤ 64) × (depth_at ns k ≤ length st)) e next in
-          (omega (arith, f.0), omega (arith, f.1), omega (arith, f.2))
-        where
-          next : (1 ≤ depth_at ns (suc (m - 1))) × (depth_at ns (suc (m - 1)) ≤ 64) × (depth_at ns (suc (m - 1)) ≤ length st)
-          next =
-              let f = laws_follow limit ns laws (m - 1) (omega arith) in
-              (omega (arith, f.low, least_low (depth_at ns (m - 1))), f.deep, omega (arith, f.next, open_height (m - 1) st (omega arith) o))
+          let f = laws_follow limit ns laws m (omega arith) in
+          let n : k ≡ suc m = omega arith in
+          let e : d ≡ depth_at ns (suc m) = is ∙ ap (depth_at ns) n in
+          (omega (arith, f.low, least_low (depth_at ns m)), omega (arith, f.deep), omega (arith, f.next, open_height m st (omega arith) o))
 
-      pub open_parent : kept ≡ drop (length st - d) st → Open ns q (parent ns m) kept
-      open_parent e =
+      pub open_parent : Open ns q (parent ns k) kept
+      open_parent =
           let n = next_depth in
-          subst (λ (k : ℕ). Open ns q k kept) (ap (λ (x : ℕ). nearest ns (x - 1) (m - 1)) is ∙ sym (parent_is ns m a))
-          (subst (Open ns q (nearest ns (d - 1) (m - 1))) (sym e) (open_cut (m - 1) d st (omega arith) n.0 n.2 o))
+          let e : k - 1 ≡ m = omega arith in
+          let p : parent ns k ≡ nearest ns (d - 1) m = parent_is ns k (omega arith) ∙ ap₂ (λ (x : ℕ) (y : ℕ). nearest ns (x - 1) y) (sym is) e in
+          subst (λ (j : ℕ). Open ns q j kept) (sym p) (subst (Open ns q (nearest ns (d - 1) m)) (sym cut) (open_cut m d st (omega arith) n.0 n.2 o))
+
+      pub has_parent : (r : Option Marks) → Topped kept r → IsSome r
+      has_parent None e = absurd (open_some (parent ns k) kept open_parent e)
+      has_parent (Some p) e = refl
+
+      pub parent_marked : (r : Option Marks) (p : Marks) → Topped kept r → r ≡ Some p → Marked ns q (parent ns k) p
+      parent_marked r p t e = open_top (parent ns k) p (drop 1 kept) kept open_parent (subst (Topped kept) e t)
+
+      -- there is room for the next
+      pub room_next : (n : ℕ) → n ≡ 65 → length kept < n
+      room_next n e = let f = next_depth in omega (arith, ap length cut, length-drop (length st - d) st)

@@ -1,3 +1,4 @@
 pub mod Faults
 pub mod Marks
+pub mod Open
 pub mod Walks

@@ -1,20 +1,24 @@
 -- What a walk answers. Assumes nothing.
 --     origins ns q                   the origins of the nodes that the steps q select, in document order
+--     left ns q m                    those of them that come after the node m
 --     Walked ns q before r after     a walk over the nodes ns by the steps q answers r and turns the slots `before` into `after`
 --     XPathSelects ns q             q selects the nodes that its path locates from the document
 --     Open ns q m st                 st are the marks of the node m and of all nodes that it is below, the document last
-use Rattle.std.specs.Prelude.{◌≡◌, ℕ, ◌<◌, ◌≤◌, true, List, [], ◌∷◌, ◌++◌, map, length, drop, Ok, Err, Result}
-use Rattle.tree.specs.Nodes.{Node, origin_at}
-use Rattle.tree.specs.Paths.{parent, member, selects}
+use Rattle.std.specs.Prelude.{◌≡◌, ℕ, suc, ◌-◌, ◌<◌, ◌≤◌, true, List, [], ◌∷◌, ◌++◌, map, filter, length, drop, Ok, Err, Result}
+use Rattle.tree.specs.Nodes.{Node, count, origin_at}
+use Rattle.tree.specs.Paths.{parent, member, numbers, selects}
 use Rattle.tree.specs.XPath.{Both, Located}
 use Rattle.tree.specs.declared.step.Step.{Step}
 use Rattle.walk.specs.declared.marks.Marks.{Marks}
 use Rattle.walk.specs.declared.fault.WalkFault.{WalkFault}
 use Rattle.walk.specs.declared.fault.WalkFault.TheVariants.{NoQuestion, Short}
-use Rattle.walk.specs.Marks.{Marked}
+use Rattle.walk.specs.Marks.{Marked, ends}
 
 abbrev pub origins : List Node → List Step → List ℕ
 origins ns q = map (origin_at ns) (selects ns q)
+
+abbrev pub left : List Node → List Step → ℕ → List ℕ
+left ns q m = map (origin_at ns) (filter (ends ns q (length q)) (numbers (count ns - m) (suc m)))
 
 pub record Question (q : List Step) : Type 0 where
   pub some : 1 ≤ length q

@@ -26,7 +26,7 @@ impl Refusal for WalkFault {
     fn place(&self) -> u32 {
         match *self {
             WalkFault::NoQuestion => 0,
-            WalkFault::Short(needed) => needed as u32,
+            WalkFault::Short(needed) => u32::from(needed),
         }
     }
 }
