@@ -1,7 +1,7 @@
 // Why a walk is refused.
 ghost use Rattle.walk.specs.Faults.{number, place};
 
-use tree::refusal::Refusal;
+use tree::refusal::{Refusal, Told};
 
 #[derive(Clone, Copy, Debug, PartialEq, Drop)]
 pub enum WalkFault {
@@ -16,17 +16,14 @@ impl Refusal for WalkFault {
 
     ghost at = { place };
 
-    fn number(&self) -> u8 {
-        match *self {
-            WalkFault::NoQuestion => 52,
-            WalkFault::Short(_) => 57,
-        }
-    }
-
-    fn place(&self) -> u32 {
-        match *self {
-            WalkFault::NoQuestion => 0,
-            WalkFault::Short(needed) => u32::from(needed),
+    fn told(&self) -> Told {
+        let (number, place) = match *self {
+            WalkFault::NoQuestion => (52, 0),
+            WalkFault::Short(needed) => (57, needed),
+        };
+        Told {
+            number,
+            place: u32::from(place),
         }
     }
 }
