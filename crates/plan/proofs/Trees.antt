@@ -1,5 +1,5 @@
 -- The nodes of a derivation are a tree.
-use Rattle.std.proofs.Common.{◌≡◌, ℕ, zero, suc, ◌+◌, ◌≤◌, true, List, [], ◌∷◌, ◌++◌, map, length, sym, refl, ap, ◌∙◌, subst, arith}
+use Rattle.std.proofs.Common.{◌≡◌, ℕ, zero, suc, ◌+◌, ◌≤◌, true, List, [], ◌∷◌, ◌++◌, map, length, Some, None, sym, refl, ap, ◌∙◌, subst, arith}
 use lib.ListN.{length-map}
 use Rattle.std.specs.List.{AllByRecursion}
 use Rattle.std.proofs.lemmas.List.{map-append}
@@ -68,17 +68,17 @@ right_shape : (p l d : ℕ) → 1 ≤ l → l ≤ 65535 → least p ≤ d → d 
 right_shape p l d a b c e f = and_from _ _ (le-leb 1 l a) (and_from _ _ (le-leb l 65535 b) (and_from _ _ (le-leb (least p) d c) (and_from _ _ (le-leb d 64 e) (le-leb d (p + 1) f))))
 
 -- slots whose depths climb so have no wrong one among them
-none_wrong : (ms : List (List ℕ)) (es : List Entry) (p i : ℕ) → length ms ≤ 512 → AllByRecursion (λ e. e.depth ≤ 64) es → Climbs p (depths es) → wrong p i (map (slot_in ms) es) ≡ 0
+none_wrong : (ms : List (List ℕ)) (es : List Entry) (p i : ℕ) → length ms ≤ 512 → AllByRecursion (λ e. e.depth ≤ 64) es → Climbs p (depths es) → wrong p i (map (slot_in ms) es) ≡ None
 none_wrong ms [] p i l a c = refl
 none_wrong ms (e ∷ es) p i l a c =
-    cond-true (shape p (before e.name ms + 1) e.depth) (wrong e.depth (suc i) (map (slot_in ms) es)) i (right_shape p (before e.name ms + 1) e.depth (omega arith) (omega (arith, before_le e.name ms)) c.0 a.0 c.1)
+    cond-true (shape p (before e.name ms + 1) e.depth) (wrong e.depth (suc i) (map (slot_in ms) es)) (Some i) (right_shape p (before e.name ms + 1) e.depth (omega arith) (omega (arith, before_le e.name ms)) c.0 a.0 c.1)
     ∙ none_wrong ms es e.depth (suc i) l a.1 c.2
 
 pub derived_tree : (n k : ℕ) (text : List ℕ) (c : Counts) (ns : List Slot) (ms : List (List ℕ)) → Derived (room n k) text c ns ms → Laws node_limit (numbered 1 ns)
 derived_tree n k text c ns ms d =
     let es = d.entries in
     let long = length-map es (slot_in ms) in
-    let right : wrong 0 1 (map (slot_in ms) es) ≡ 0 = none_wrong ms es 0 1 (omega (arith, ap length d.names, d.limits.names)) d.limits.shallow (element_climbs d.document.element 0 (omega arith) (omega arith)).0 in
+    let right : wrong 0 1 (map (slot_in ms) es) ≡ None = none_wrong ms es 0 1 (omega (arith, ap length d.names, d.limits.names)) d.limits.shallow (element_climbs d.document.element 0 (omega arith) (omega arith)).0 in
     lawful_laws node_limit (numbered 1 ns)
     (subst (λ (z : List Slot). lawful node_limit (numbered 1 z) ≡ true) (sym d.nodes)
     (right_lawful (map (slot_in ms) es) (omega (arith, element_some d.document.element)) (omega (arith, d.limits.nodes)) right))

@@ -1,19 +1,20 @@
 // Why a plan text is refused, and where.
 ghost use Rattle.plan.specs.Faults.{number, place};
 
-use tree::refusal::Refusal;
+use tree::refusal::{Refusal, Told};
 
+// A rule's number is the number of its refusal.
 #[derive(Clone, Copy, Debug, PartialEq, Drop)]
 pub enum Rule {
-    TooLong,
-    NoTag,
-    WrongEnd,
-    Outside,
-    Unfinished,
-    LongName,
-    TooDeep,
-    NodesFull,
-    NamesFull,
+    TooLong = 1,
+    NoTag = 2,
+    WrongEnd = 3,
+    Outside = 4,
+    Unfinished = 5,
+    LongName = 6,
+    TooDeep = 7,
+    NodesFull = 8,
+    NamesFull = 9,
 }
 
 #[derive(Clone, Copy, Debug, PartialEq, Drop)]
@@ -27,21 +28,10 @@ impl Refusal for PlanFault {
 
     ghost at = { place };
 
-    fn number(&self) -> u8 {
-        match self.rule {
-            Rule::TooLong => 1,
-            Rule::NoTag => 2,
-            Rule::WrongEnd => 3,
-            Rule::Outside => 4,
-            Rule::Unfinished => 5,
-            Rule::LongName => 6,
-            Rule::TooDeep => 7,
-            Rule::NodesFull => 8,
-            Rule::NamesFull => 9,
+    fn told(&self) -> Told {
+        Told {
+            number: self.rule as u8,
+            place: self.place,
         }
-    }
-
-    fn place(&self) -> u32 {
-        self.place
     }
 }
