@@ -14,11 +14,14 @@ use Rattle.views.proofs.Parts.{part_lawful}
 use Rattle.views.proofs.Roots.{Rooted, before_root}
 use Rattle.views.proofs.Places.{first, first_yes, first_no, first_none}
 
--- the row has what the branch has of the first m nodes, and the next node is in the branch if it is deeper than k
+-- the row has what the branch has of the nodes before m, and the node m is in the branch if it is deeper than k
 pub record Sofar (ns : List Node) (k m : ℕ) (row : List Node) : Type 0 where
-  pub from : k ≤ m
-  pub taken : row ≡ map (λ (i : ℕ). raised (depth_at ns k - 1) (node_at ns i)) (first (under ns (k ∷ [])) m)
-  pub cut : Cut ns (k ∷ []) m (depth_at ns k)
+  pub seen : ℕ
+  pub next : m ≡ suc seen
+  pub within : seen ≤ count ns
+  pub from : k ≤ seen
+  pub taken : row ≡ map (λ (i : ℕ). raised (depth_at ns k - 1) (node_at ns i)) (first (under ns (k ∷ [])) seen)
+  pub cut : Cut ns (k ∷ []) seen (depth_at ns k)
 
 module _ (limit : ℕ) (ns : List Node) (laws : Laws limit ns) (k : ℕ) (low : 1 ≤ k) (high : k ≤ count ns) where
   abbrev inside : ℕ → Bool
@@ -75,13 +78,17 @@ module _ (limit : ℕ) (ns : List Node) (laws : Laws limit ns) (k : ℕ) (low : 
         subst (λ (i : ℕ). Cut ns (k ∷ []) i (depth_at ns i)) e cut,
       )
 
-  pub sofar_start : (row : List Node) → row ≡ raised (depth_at ns k - 1) (node_at ns k) ∷ [] → Sofar ns k k row
+  pub sofar_start : (row : List Node) → row ≡ raised (depth_at ns k - 1) (node_at ns k) ∷ [] → Sofar ns k (k + 1) row
   sofar_start row e =
       let s = at_k (k - 1) (omega arith) in
-      record { from = omega arith; taken = e ∙ ap (map moved) (sym s.0); cut = s.1 }
+      record { seen = k; next = add-one k; within = high; from = omega arith; taken = e ∙ ap (map moved) (sym s.0); cut = s.1 }
 
-  pub sofar_few : (m : ℕ) (row : List Node) → Sofar ns k m row → length row ≤ m
-  sofar_few m row s = omega (arith, ap length s.taken, length-map (first inside m) moved, length_kept inside m 1)
+  pub sofar_few : (m : ℕ) (row : List Node) → Sofar ns k m row → length row < m
+  sofar_few m row s = omega (arith, s.next, ap length s.taken, length-map (first inside s.seen) moved, length_kept inside s.seen 1)
+
+  -- all nodes were seen
+  pub sofar_all : (m : ℕ) (row : List Node) → Sofar ns k m row → count ns < m → row ≡ branch k ns
+  sofar_all m row s e = let all : s.seen ≡ count ns = omega (arith, s.next, s.within) in s.taken ∙ ap (λ (i : ℕ). map moved (first inside i)) all
 
   none_after : (n m : ℕ) → m + n ≡ count ns → k ≤ m → Cut ns (k ∷ []) m 65 → first inside (count ns) ≡ first inside m
   none_after zero m e l h = let z : count ns ≡ m = omega arith in ap (first inside) z
@@ -90,21 +97,25 @@ module _ (limit : ℕ) (ns : List Node) (laws : Laws limit ns) (k : ℕ) (low : 
       let next = cut_clear limit ns laws (k ∷ []) none m 65 (omega arith) h (omega arith) (not_k (suc m) (λ z. omega (arith, z))) in
       none_after n (suc m) (omega arith) (omega arith) next.1 ∙ first_no inside m next.0
 
-  -- the next node is x
-  module _ (m : ℕ) (row : List Node) (x : Node) (l : m < count ns) (e : x ≡ node_at ns (m + 1)) (s : Sofar ns k m row) where
-    is_next : x ≡ node_at ns (suc m)
-    is_next = e ∙ ap (node_at ns) (add-one m)
+  -- the node m is x
+  module _ (m : ℕ) (row : List Node) (s : Sofar ns k m row) (l : m ≤ count ns) (x : Node) (e : x ≡ node_at ns m) where
+    is_next : x ≡ node_at ns (suc s.seen)
+    is_next = e ∙ ap (node_at ns) s.next
 
+    -- it is no deeper than k, and no later node is in the branch
     pub sofar_stop : x.depth ≤ depth_at ns k → row ≡ branch k ns
     sofar_stop d =
-        let next = cut_clear limit ns laws (k ∷ []) none m (depth_at ns k) l s.cut (subst (λ (n : Node). n.depth ≤ depth_at ns k) is_next d) (not_k (suc m) (λ z. omega (arith, z, s.from))) in
-        s.taken ∙ ap (map moved) (sym (none_after (count ns - suc m) (suc m) (omega arith) (omega (arith, s.from)) next.1 ∙ first_no inside m next.0))
+        let next = cut_clear limit ns laws (k ∷ []) none s.seen (depth_at ns k) (omega (arith, s.next)) s.cut (subst (λ (n : Node). n.depth ≤ depth_at ns k) is_next d) (not_k (suc s.seen) (λ z. omega (arith, z, s.from))) in
+        s.taken ∙ ap (map moved) (sym (none_after (count ns - suc s.seen) (suc s.seen) (omega (arith, s.next)) (omega (arith, s.from)) next.1 ∙ first_no inside s.seen next.0))
 
     pub sofar_more : depth_at ns k < x.depth → Sofar ns k (m + 1) (row ++ raised (depth_at ns k - 1) x ∷ [])
     sofar_more d =
-        let next = cut_below limit ns laws (k ∷ []) none m (depth_at ns k) l s.cut (subst (λ (n : Node). depth_at ns k < n.depth) is_next d) in
-        subst (λ (i : ℕ). Sofar ns k i (row ++ raised (depth_at ns k - 1) x ∷ [])) (sym (add-one m)) (record {
+        let next = cut_below limit ns laws (k ∷ []) none s.seen (depth_at ns k) (omega (arith, s.next)) s.cut (subst (λ (n : Node). depth_at ns k < n.depth) is_next d) in
+        record {
+          seen = suc s.seen;
+          next = omega (arith, s.next);
+          within = omega (arith, s.next);
           from = omega (arith, s.from);
-          taken = (λ i. s.taken i ++ raised (depth_at ns k - 1) (is_next i) ∷ []) ∙ sym (map_push moved (first inside m) (suc m)) ∙ ap (map moved) (sym (first_yes inside m next.0));
+          taken = (λ i. s.taken i ++ raised (depth_at ns k - 1) (is_next i) ∷ []) ∙ sym (map_push moved (first inside s.seen) (suc s.seen)) ∙ ap (map moved) (sym (first_yes inside s.seen next.0));
           cut = next.1;
-        })
+        }

@@ -1,5 +1,7 @@
 -- What hiding leaves is a tree of exactly the nodes that bear none of the labels and are below no node that does, and one pass gathers it.
-use Rattle.std.proofs.Common.{◌≡◌, ℕ, zero, suc, ◌+◌, ◌-◌, ◌<◌, ◌≤◌, Bool, true, false, not, ◌⊎◌, List, [], ◌∷◌, ◌++◌, map, length, sym, refl, ap, ◌∙◌, subst, inl, inr, ⊎_elim, add-one, arith}
+use Rattle.std.proofs.Common.{◌≡◌, ℕ, zero, suc, ◌+◌, ◌-◌, ◌<◌, ◌≤◌, Bool, true, false, not, ◌||◌, ◌==◌, Option, Some, None, ◌⊎◌, List, [], ◌∷◌, ◌++◌, map, length, sym, refl, ap, ◌∙◌, subst, inl, inr, ⊎_elim, arith}
+use Rattle.std.specs.List.{list_any}
+use Rattle.std.specs.Option.{unwrap_or}
 use Rattle.std.proofs.lemmas.List.{length-map, map_push}
 use Rattle.std.proofs.lemmas.Bool.{both_ways, not-true, not_from_true, not_from_false, or_parts, or_from, cases_lt, cases_Bool}
 use Rattle.tree.specs.Nodes.{Node, Laws, count, node_at, label_at, depth_at, lawful}
@@ -8,7 +10,7 @@ use Rattle.tree.proofs.Paths.{below_lt, length_kept, member_in, member_out, memb
 use Rattle.views.specs.Parts.{Part, Within}
 use Rattle.views.specs.Settings.{FreeOf}
 use Rattle.views.specs.Views.{bearers, hide, passing, raised, under}
-use Rattle.views.proofs.Cuts.{Cut, cut_below, cut_here, cut_clear, under_document, under_up, under_within, within_under}
+use Rattle.views.proofs.Cuts.{Cut, cut_start, depth_fits, cut_below, cut_here, cut_clear, under_document, under_up, under_within, within_under}
 use Rattle.views.proofs.Parents.{part}
 use Rattle.views.proofs.Parts.{part_lawful}
 use Rattle.views.proofs.Roots.{Rooted}
@@ -21,10 +23,18 @@ within_le : (ns : List Node) (n m : ℕ) → Within ns n m → n ≤ m
 within_le ns n m (inl e) = omega (arith, e)
 within_le ns n m (inr b) = omega (arith, below_lt ns n m b)
 
--- the row has what is left of the first m nodes, and the next node is below a hidden one if it is deeper than c
-pub record Sofar (ns : List Node) (ls : List ℕ) (m c : ℕ) (row : List Node) : Type 0 where
-  pub taken : row ≡ map (node_at ns) (first (λ i. not (under ns (bearers ls ns) i)) m)
-  pub cut : Cut ns (bearers ls ns) m c
+-- whether a label is among the labels
+pub any_member : (ls : List ℕ) (k : ℕ) → list_any (λ l. l == k) ls ≡ member ls k
+any_member [] k = refl
+any_member (l ∷ ls) k = ap (λ (b : Bool). (l == k) || b) (any_member ls k)
+
+-- the row has what is left of the nodes before m, and the node m is below a hidden one if it is deeper than the cut
+pub record Sofar (ns : List Node) (ls : List ℕ) (m : ℕ) (cut : Option ℕ) (row : List Node) : Type 0 where
+  pub seen : ℕ
+  pub next : m ≡ suc seen
+  pub within : seen ≤ count ns
+  pub taken : row ≡ map (node_at ns) (first (λ i. not (under ns (bearers ls ns) i)) seen)
+  pub cut_at : Cut ns (bearers ls ns) seen (unwrap_or cut 65)
 
 module _ (limit : ℕ) (ns : List Node) (laws : Laws limit ns) (ls : List ℕ) where
   abbrev free : ℕ → Bool
@@ -81,34 +91,58 @@ module _ (limit : ℕ) (ns : List Node) (laws : Laws limit ns) (ls : List ℕ) w
   free_of h = subst (λ (change : Node → Node). Part ns Free change (map (λ (m : ℕ). change (node_at ns m)) (passing ns free))) (λ i n. raised_none n i)
       (part limit ns laws free 1 0 (rooted h) Free (λ m a c. record { to = is_free m c; from = free_is m }))
 
-  pub sofar_few : (m c : ℕ) (row : List Node) → Sofar ns ls m c row → length row ≤ m
-  sofar_few m c row s = omega (arith, ap length s.taken, length-map (first free m) (node_at ns), length_kept free m 1)
+  pub sofar_start : Sofar ns ls 1 None []
+  sofar_start = record { seen = 0; next = refl; within = omega arith; taken = refl; cut_at = cut_start ns (bearers ls ns) }
 
-  -- the next node is x
-  module _ (m c : ℕ) (row : List Node) (x : Node) (l : m < count ns) (e : x ≡ node_at ns (m + 1)) (s : Sofar ns ls m c row) where
-    is_next : x ≡ node_at ns (suc m)
-    is_next = e ∙ ap (node_at ns) (add-one m)
+  pub sofar_few : (m : ℕ) (cut : Option ℕ) (row : List Node) → Sofar ns ls m cut row → length row < m
+  sofar_few m cut row s = omega (arith, s.next, ap length s.taken, length-map (first free s.seen) (node_at ns), length_kept free s.seen 1)
 
-    next_bears : (v : Bool) → member ls x.label ≡ v → member (bearers ls ns) (suc m) ≡ v
-    next_bears v h = bears (suc m) (omega arith) l ∙ ap (λ (n : Node). member ls n.label) (sym is_next) ∙ h
+  -- all nodes were seen
+  pub sofar_all : (m : ℕ) (cut : Option ℕ) (row : List Node) → Sofar ns ls m cut row → count ns < m → row ≡ hide ls ns
+  sofar_all m cut row s e = let all : s.seen ≡ count ns = omega (arith, s.next, s.within) in s.taken ∙ ap (λ (i : ℕ). map (node_at ns) (first free i)) all
 
-    skip : (d : ℕ) → (under ns (bearers ls ns) (suc m) ≡ true) × Cut ns (bearers ls ns) (suc m) d → Sofar ns ls (m + 1) d row
-    skip d next = subst (λ (i : ℕ). Sofar ns ls i d row) (sym (add-one m)) (record {
-      taken = s.taken ∙ ap (map (node_at ns)) (sym (first_no free m (not_from_true _ next.0)));
-      cut = next.1;
-    })
+  -- a node that is not deeper than the cut
+  within_cut : (cut : Option ℕ) (n : Node) → n.depth ≤ 64 → ((d : ℕ) → cut ≡ Some d → n.depth ≤ d) → n.depth ≤ unwrap_or cut 65
+  within_cut None n f h = omega arith
+  within_cut (Some d) n f h = h d refl
 
-    pub sofar_below : c < x.depth → Sofar ns ls (m + 1) c row
-    sofar_below d = skip c (cut_below limit ns laws (bearers ls ns) none m c l s.cut (subst (λ (n : Node). c < n.depth) is_next d))
+  -- the node m is x
+  module _ (m : ℕ) (cut : Option ℕ) (row : List Node) (s : Sofar ns ls m cut row) (l : m ≤ count ns) (x : Node) (e : x ≡ node_at ns m) where
+    is_next : x ≡ node_at ns (suc s.seen)
+    is_next = e ∙ ap (node_at ns) s.next
 
-    pub sofar_hidden : x.depth ≤ c → member ls x.label ≡ true → Sofar ns ls (m + 1) x.depth row
-    sofar_hidden d h = subst (λ (n : Node). Sofar ns ls (m + 1) n.depth row) (sym is_next)
-        (skip (depth_at ns (suc m)) (cut_here limit ns laws (bearers ls ns) none m c l s.cut (subst (λ (n : Node). n.depth ≤ c) is_next d) (next_bears true h)))
+    inside : s.seen < count ns
+    inside = omega (arith, s.next)
 
-    pub sofar_shown : x.depth ≤ c → member ls x.label ≡ false → Sofar ns ls (m + 1) 65 (row ++ x ∷ [])
+    next_bears : (v : Bool) → member ls x.label ≡ v → member (bearers ls ns) (suc s.seen) ≡ v
+    next_bears v h = bears (suc s.seen) (omega arith) inside ∙ ap (λ (n : Node). member ls n.label) (sym is_next) ∙ h
+
+    shallow : ((d : ℕ) → cut ≡ Some d → x.depth ≤ d) → depth_at ns (suc s.seen) ≤ unwrap_or cut 65
+    shallow h = within_cut cut (node_at ns (suc s.seen)) (depth_fits limit ns laws s.seen inside).1 (λ d c. subst (λ (n : Node). n.depth ≤ d) is_next (h d c))
+
+    skip : (after : Option ℕ) → (under ns (bearers ls ns) (suc s.seen) ≡ true) × Cut ns (bearers ls ns) (suc s.seen) (unwrap_or after 65) → Sofar ns ls (m + 1) after row
+    skip after next = record {
+      seen = suc s.seen;
+      next = omega (arith, s.next);
+      within = omega (arith, s.next);
+      taken = s.taken ∙ ap (map (node_at ns)) (sym (first_no free s.seen (not_from_true _ next.0)));
+      cut_at = next.1;
+    }
+
+    pub sofar_below : (d : ℕ) → cut ≡ Some d → d < x.depth → Sofar ns ls (m + 1) (Some d) row
+    sofar_below d c h = skip (Some d) (cut_below limit ns laws (bearers ls ns) none s.seen d inside (subst (λ (o : Option ℕ). Cut ns (bearers ls ns) s.seen (unwrap_or o 65)) c s.cut_at) (subst (λ (n : Node). d < n.depth) is_next h))
+
+    pub sofar_hidden : ((d : ℕ) → cut ≡ Some d → x.depth ≤ d) → list_any (λ l. l == x.label) ls ≡ true → Sofar ns ls (m + 1) (Some x.depth) row
+    sofar_hidden d h = subst (λ (n : Node). Sofar ns ls (m + 1) (Some n.depth) row) (sym is_next)
+        (skip (Some (depth_at ns (suc s.seen))) (cut_here limit ns laws (bearers ls ns) none s.seen (unwrap_or cut 65) inside s.cut_at (shallow d) (next_bears true (sym (any_member ls x.label) ∙ h))))
+
+    pub sofar_shown : ((d : ℕ) → cut ≡ Some d → x.depth ≤ d) → list_any (λ l. l == x.label) ls ≡ false → Sofar ns ls (m + 1) None (row ++ x ∷ [])
     sofar_shown d h =
-        let next = cut_clear limit ns laws (bearers ls ns) none m c l s.cut (subst (λ (n : Node). n.depth ≤ c) is_next d) (next_bears false h) in
-        subst (λ (i : ℕ). Sofar ns ls i 65 (row ++ x ∷ [])) (sym (add-one m)) (record {
-          taken = (λ i. s.taken i ++ is_next i ∷ []) ∙ sym (map_push (node_at ns) (first free m) (suc m)) ∙ ap (map (node_at ns)) (sym (first_yes free m (not_from_false _ next.0)));
-          cut = next.1;
-        })
+        let next = cut_clear limit ns laws (bearers ls ns) none s.seen (unwrap_or cut 65) inside s.cut_at (shallow d) (next_bears false (sym (any_member ls x.label) ∙ h)) in
+        record {
+          seen = suc s.seen;
+          next = omega (arith, s.next);
+          within = omega (arith, s.next);
+          taken = (λ i. s.taken i ++ is_next i ∷ []) ∙ sym (map_push (node_at ns) (first free s.seen) (suc s.seen)) ∙ ap (map (node_at ns)) (sym (first_yes free s.seen (not_from_false _ next.0)));
+          cut_at = next.1;
+        }

@@ -1,4 +1,3 @@
-pub mod Rows
 pub mod Cuts
 pub mod Places
 pub mod Roots

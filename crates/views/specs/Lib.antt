@@ -1,5 +1,4 @@
 pub mod Faults
-pub mod Rows
 pub mod Views
 pub mod Parts
 pub mod Settings

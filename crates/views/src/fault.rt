@@ -1,7 +1,7 @@
 // Why the setting of a view is refused.
 ghost use Rattle.views.specs.Faults.{number, place};
 
-use tree::refusal::Refusal;
+use tree::refusal::{Refusal, Told};
 
 #[derive(Clone, Copy, Debug, PartialEq, Drop)]
 pub enum ViewFault {
@@ -18,15 +18,12 @@ impl Refusal for ViewFault {
 
     ghost at = { place };
 
-    fn number(&self) -> u8 {
-        match *self {
+    fn told(&self) -> Told {
+        let number = match *self {
             ViewFault::NoNode => 31,
             ViewFault::ManyLabels => 32,
             ViewFault::RootHidden => 33,
-        }
-    }
-
-    fn place(&self) -> u32 {
-        0
+        };
+        Told { number, place: 0 }
     }
 }

@@ -4,6 +4,4 @@
 pub mod branch;
 pub mod fault;
 pub mod hide;
-mod reads;
-mod row;
-mod shown;
+pub mod view;

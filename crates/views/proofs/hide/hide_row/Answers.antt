@@ -1,21 +1,37 @@
-use Rattle.std.proofs.Common.{◌+◌, sym, subst, arith}
+use Rattle.std.proofs.Common.{◌+◌, arith, rules}
 use Rattle.tree.specs.Nodes.{node_limit}
-use Rattle.views.specs.Rows.{entries}
-use Rattle.views.proofs.HideLemmas.{Sofar, sofar_few, sofar_below, sofar_hidden, sofar_shown}
+use Rattle.views.proofs.HideLemmas.{sofar_start, sofar_few, sofar_all, sofar_below, sofar_hidden, sofar_shown}
 use Rattle.views.proofs.hide.hide_row.Goals as goal
+use Rattle.views.proofs.hide.hide_row.Goals.{in-Some, in_default, in_default-2}
 
-pub loop-m-preserved-then-is_among : goal.loop-m-preserved-then-is_among
-loop-m-preserved-then-is_among g c =
-    (omega arith, sofar_hidden node_limit (g.T.Tree.nodes c.args.tree.now) (g.T.Tree.keeps c.args.tree.now) c.args.labels.now c.loop-m.m c.loop-m.cut (entries c.loop-m.row) c.node_at-next.result (omega arith) c.node_at-next.ensures c.loop-m.invariant.1 (omega arith) (sym c.if-is_among.ensures))
+pub loop-m-init : goal.loop-m-init
+loop-m-init g c = let laws = g.T.Tree.keeps c.args.tree.now in search (rules, sofar_start)
 
-pub loop-m-preserved-else-is_among : goal.loop-m-preserved-else-is_among
-loop-m-preserved-else-is_among g c =
-    let ns = g.T.Tree.nodes c.args.tree.now in
+pub push-requires : goal.push-requires
+push-requires g c =
     let laws = g.T.Tree.keeps c.args.tree.now in
-    let few = sofar_few node_limit ns laws c.args.labels.now c.loop-m.m c.loop-m.cut (entries c.loop-m.row) c.loop-m.invariant.1 in
-    let pushed = c.push.ensures (omega (arith, laws.most)) in
-    (omega arith, subst (Sofar ns c.args.labels.now (c.loop-m.m + 1) 65) (sym pushed) (sofar_shown node_limit ns laws c.args.labels.now c.loop-m.m c.loop-m.cut (entries c.loop-m.row) c.node_at-next.result (omega arith) c.node_at-next.ensures c.loop-m.invariant.1 (omega arith) (sym c.if-is_among.ensures)))
+    let few = sofar_few node_limit _ laws _ _ _ _ c.loop-m.invariant in
+    (omega arith, omega (arith, laws.most))
 
 pub loop-m-preserved : goal.loop-m-preserved
 loop-m-preserved g c =
-    (omega arith, sofar_below node_limit (g.T.Tree.nodes c.args.tree.now) (g.T.Tree.keeps c.args.tree.now) c.args.labels.now c.loop-m.m c.loop-m.cut (entries c.loop-m.row) c.node_at-next.result (omega arith) c.node_at-next.ensures c.loop-m.invariant.1 (omega arith))
+    let laws = g.T.Tree.keeps c.args.tree.now in
+    elim c.match-cut.branch [
+      | in-Some w ↦ search (rules, sofar_below node_limit _ laws)
+      | in_default w ↦ search (rules, sofar_hidden node_limit _ laws)
+      | in_default-2 w ↦ search (rules, sofar_shown node_limit _ laws)
+    ]
+
+pub returns-after-cut : goal.returns-after-cut
+returns-after-cut g c =
+    let laws = g.T.Tree.keeps c.args.tree.now in
+    sofar_all node_limit _ laws _ (c.loop-m.m + 1) c.match-cut.cut _ (elim c.match-cut.branch [
+      | in-Some w ↦ search (rules, sofar_below node_limit _ laws)
+      | in_default w ↦ search (rules, sofar_hidden node_limit _ laws)
+      | in_default-2 w ↦ search (rules, sofar_shown node_limit _ laws)
+    ]) (omega arith)
+
+pub returns : goal.returns
+returns g c =
+    let laws = g.T.Tree.keeps c.args.tree.now in
+    search (rules, sofar_all node_limit _ laws)
