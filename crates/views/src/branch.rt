@@ -5,15 +5,16 @@ ghost use Rattle.views.specs.Views.{raised as raised_by, branch as branch_at};
 ghost use Rattle.views.specs.Settings.{showing, SetsBranch};
 
 use crate::fault::ViewFault;
-use crate::view::{Row, View};
+use crate::row::Row;
+use crate::view::View;
 use tree::node::Node;
 use tree::trees::Tree;
 
 #[derive(Drop)]
-pub struct OfBranch;
+pub struct AtNode;
 
 // A view that is set to a node.
-pub type Branch<T> = View<OfBranch, T>;
+pub type Branch<T> = View<AtNode, T>;
 
 fn raised(node: Node, levels: u16) -> Node
     ensures { result ≡ raised_by levels node }
@@ -43,7 +44,7 @@ fn branch_row<T: Tree>(tree: &T, k: u16) -> Row
     row
 }
 
-impl<T: Tree> View<OfBranch, T> {
+impl<T: Tree> View<AtNode, T> {
     // Shows the branch at this node of the tree below from now on, or refuses and shows what it showed.
     pub fn set(&mut self, node: u16) -> Result<(), ViewFault>
         ensures below { self.new.below ≡ self.old.below }

@@ -4,23 +4,24 @@ ghost use Rattle.views.specs.Views.{hide as hidden};
 ghost use Rattle.views.specs.Settings.{showing, SetsHide};
 
 use crate::fault::ViewFault;
-use crate::view::{Row, View};
+use crate::row::Row;
+use crate::view::View;
 use tree::trees::Tree;
 
 const MOST_LABELS: usize = 8;
 
 #[derive(Drop)]
-pub struct OfHide;
+pub struct WithoutLabels;
 
 // A view that is set to labels.
-pub type Hide<T> = View<OfHide, T>;
+pub type Hide<T> = View<WithoutLabels, T>;
 
 // A node deeper than `cut` is below the last hidden node.
 fn hide_row<T: Tree>(tree: &T, labels: &[u16]) -> Row
     ensures { result.items ≡ hidden labels.now (T.Tree.nodes tree.now) }
 {
     let mut row = Row::new();
-    let mut cut = None;
+    let mut cut: Option<u16> = None;
     for m in 1..=tree.count() {
         let node = tree.node(m);
         match cut {
@@ -35,7 +36,7 @@ fn hide_row<T: Tree>(tree: &T, labels: &[u16]) -> Row
     row
 }
 
-impl<T: Tree> View<OfHide, T> {
+impl<T: Tree> View<WithoutLabels, T> {
     // Shows the tree below without these labels from now on, or refuses and shows what it showed.
     pub fn set(&mut self, labels: &[u16]) -> Result<(), ViewFault>
         ensures below { self.new.below ≡ self.old.below }

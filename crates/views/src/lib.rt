@@ -4,4 +4,5 @@
 pub mod branch;
 pub mod fault;
 pub mod hide;
+mod row;
 pub mod view;

@@ -2,14 +2,10 @@
 ghost use Rattle.std.specs.Prelude.{◌≡◌, true};
 ghost use Rattle.tree.specs.Nodes.{lawful, node_limit};
 
-use arrayvec::ArrayVec;
+use crate::row::Row;
 use std::marker::PhantomData;
-use tree::node::Node;
 
 pub mod methods;
-
-// Room for as many nodes as a tree can have.
-pub(crate) type Row = ArrayVec<Node, 4096>;
 
 // The kind says what the view is set to.
 #[derive(Drop)]

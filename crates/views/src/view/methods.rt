@@ -4,21 +4,11 @@ ghost use Rattle.tree.specs.Nodes.{node_limit};
 ghost use Rattle.tree.specs.Laws.{lawful_laws};
 ghost use Rattle.views.specs.Settings.{showing};
 
-use super::{Row, View};
+use super::View;
+use crate::row::all;
 use std::marker::PhantomData;
 use tree::node::Node;
 use tree::trees::Tree;
-
-// All nodes of a tree as they are.
-pub(crate) fn all<T: Tree>(tree: &T) -> Row
-    ensures { result.items ≡ T.Tree.nodes tree.now }
-{
-    let mut row = Row::new();
-    for m in 1..=tree.count() {
-        row.push(tree.node(m));
-    }
-    row
-}
 
 impl<K, T: Tree> View<K, T> {
     // Shows the tree below as it is.

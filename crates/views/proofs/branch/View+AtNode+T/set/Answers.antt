@@ -1,7 +1,7 @@
 use Rattle.std.proofs.Common.{rules, arith}
 use Rattle.tree.specs.Nodes.{node_limit}
 use Rattle.views.proofs.Branches.{branch_lawful, branch_of}
-use Rattle.views.proofs.branch.View+OfBranch+T.set.Goals as goal
+use Rattle.views.proofs.branch.View+AtNode+T.set.Goals as goal
 
 pub invariant_of-self : goal.invariant_of-self
 invariant_of-self g c =

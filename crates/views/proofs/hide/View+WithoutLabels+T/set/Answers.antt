@@ -1,7 +1,7 @@
 use Rattle.std.proofs.Common.{rules}
 use Rattle.tree.specs.Nodes.{node_limit}
 use Rattle.views.proofs.HideLemmas.{any_member, free_of, hide_lawful}
-use Rattle.views.proofs.hide.View+OfHide+T.set.Goals as goal
+use Rattle.views.proofs.hide.View+WithoutLabels+T.set.Goals as goal
 
 pub invariant_of-self : goal.invariant_of-self
 invariant_of-self g c =
