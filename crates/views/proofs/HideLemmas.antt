@@ -10,7 +10,7 @@ use Rattle.tree.proofs.Paths.{below_lt, length_kept, member_in, member_out, memb
 use Rattle.views.specs.Parts.{Part, Within}
 use Rattle.views.specs.Settings.{FreeOf}
 use Rattle.views.specs.Views.{bearers, hide, passing, raised, under}
-use Rattle.views.proofs.Cuts.{Cut, cut_start, depth_fits, cut_below, cut_here, cut_clear, under_document, under_up, under_within, within_under}
+use Rattle.views.proofs.Cuts.{Cut, depth_fits, cut_below, cut_here, cut_clear, under_document, under_up, under_within, within_under}
 use Rattle.views.proofs.Parents.{part}
 use Rattle.views.proofs.Parts.{part_lawful}
 use Rattle.views.proofs.Roots.{Rooted}
@@ -90,9 +90,6 @@ module _ (limit : ℕ) (ns : List Node) (laws : Laws limit ns) (ls : List ℕ) w
   pub free_of : member ls (label_at ns 1) ≡ false → FreeOf ls ns (hide ls ns)
   free_of h = subst (λ (change : Node → Node). Part ns Free change (map (λ (m : ℕ). change (node_at ns m)) (passing ns free))) (λ i n. raised_none n i)
       (part limit ns laws free 1 0 (rooted h) Free (λ m a c. record { to = is_free m c; from = free_is m }))
-
-  pub sofar_start : Sofar ns ls 1 None []
-  sofar_start = record { seen = 0; next = refl; within = omega arith; taken = refl; cut_at = cut_start ns (bearers ls ns) }
 
   pub sofar_few : (m : ℕ) (cut : Option ℕ) (row : List Node) → Sofar ns ls m cut row → length row < m
   sofar_few m cut row s = omega (arith, s.next, ap length s.taken, length-map (first free s.seen) (node_at ns), length_kept free s.seen 1)

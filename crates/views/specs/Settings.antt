@@ -4,14 +4,14 @@
 use Rattle.std.specs.Prelude.{◌≡◌, ℕ, ◌-◌, ◌<◌, ◌≤◌, true, false, List, length, Ok, Err, Result}
 use Rattle.tree.specs.Nodes.{Node, count, label_at, depth_at}
 use Rattle.tree.specs.Paths.{member}
-use Rattle.views.specs.declared.view.View.{View}
+use Rattle.views.specs.declared.shown.Shown.{Shown}
 use Rattle.views.specs.declared.fault.ViewFault.{ViewFault}
 use Rattle.views.specs.declared.fault.ViewFault.TheVariants.{NoNode, ManyLabels, RootHidden}
 use Rattle.views.specs.Views.{branch, hide, raised}
 use Rattle.views.specs.Parts.{Part, Within}
 
-abbrev pub showing : {K T : Type 0} → View K T → List Node
-showing v = v.row.items
+abbrev pub showing : Shown → List Node
+showing s = s.row.items
 
 -- exactly k and the nodes below k
 abbrev pub BranchOf : ℕ → List Node → List Node → Type 0

@@ -5,7 +5,7 @@ ghost use Rattle.views.specs.Views.{raised as raised_by, branch as branch_at};
 ghost use Rattle.views.specs.Settings.{showing, SetsBranch};
 
 use crate::fault::ViewFault;
-use crate::row::Row;
+use crate::shown::{Row, Shown};
 use crate::view::View;
 use tree::node::Node;
 use tree::trees::Tree;
@@ -48,12 +48,13 @@ impl<T: Tree> View<AtNode, T> {
     // Shows the branch at this node of the tree below from now on, or refuses and shows what it showed.
     pub fn set(&mut self, node: u16) -> Result<(), ViewFault>
         ensures below { self.new.below ≡ self.old.below }
-        ensures shown { SetsBranch (T.Tree.nodes self.old.below) node (showing self.old) result (showing self.new) }
+        ensures shown { SetsBranch (T.Tree.nodes self.old.below) node (showing self.old.shown) result (showing self.new.shown) }
     {
         if node == 0 || node > self.below.count() {
             return Err(ViewFault::NoNode);
         }
-        self.row = branch_row(&self.below, node);
+        let row = branch_row(&self.below, node);
+        self.shown = Shown { row };
         Ok(())
     }
 }

@@ -4,7 +4,7 @@ ghost use Rattle.views.specs.Views.{hide as hidden};
 ghost use Rattle.views.specs.Settings.{showing, SetsHide};
 
 use crate::fault::ViewFault;
-use crate::row::Row;
+use crate::shown::{Row, Shown};
 use crate::view::View;
 use tree::trees::Tree;
 
@@ -40,7 +40,7 @@ impl<T: Tree> View<WithoutLabels, T> {
     // Shows the tree below without these labels from now on, or refuses and shows what it showed.
     pub fn set(&mut self, labels: &[u16]) -> Result<(), ViewFault>
         ensures below { self.new.below ≡ self.old.below }
-        ensures shown { SetsHide (T.Tree.nodes self.old.below) labels.now (showing self.old) result (showing self.new) }
+        ensures shown { SetsHide (T.Tree.nodes self.old.below) labels.now (showing self.old.shown) result (showing self.new.shown) }
     {
         if labels.len() > MOST_LABELS {
             return Err(ViewFault::ManyLabels);
@@ -48,7 +48,8 @@ impl<T: Tree> View<WithoutLabels, T> {
         if labels.contains(&self.below.label(1)) {
             return Err(ViewFault::RootHidden);
         }
-        self.row = hide_row(&self.below, labels);
+        let row = hide_row(&self.below, labels);
+        self.shown = Shown { row };
         Ok(())
     }
 }

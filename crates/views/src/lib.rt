@@ -4,5 +4,5 @@
 pub mod branch;
 pub mod fault;
 pub mod hide;
-mod row;
+mod shown;
 pub mod view;

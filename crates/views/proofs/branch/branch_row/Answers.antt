@@ -19,11 +19,6 @@ loop-m-preserved g c =
     let laws = g.T.Tree.keeps c.args.tree.now in
     search (rules, sofar_more node_limit _ laws)
 
-pub returns : goal.returns
-returns g c =
-    let laws = g.T.Tree.keeps c.args.tree.now in
-    search (rules, sofar_all node_limit _ laws)
-
 pub returns-then-node-root : goal.returns-then-node-root
 returns-then-node-root g c =
     let laws = g.T.Tree.keeps c.args.tree.now in

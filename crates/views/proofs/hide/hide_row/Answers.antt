@@ -1,11 +1,8 @@
 use Rattle.std.proofs.Common.{◌+◌, arith, rules}
 use Rattle.tree.specs.Nodes.{node_limit}
-use Rattle.views.proofs.HideLemmas.{sofar_start, sofar_few, sofar_all, sofar_below, sofar_hidden, sofar_shown}
+use Rattle.views.proofs.HideLemmas.{sofar_few, sofar_all, sofar_below, sofar_hidden, sofar_shown}
 use Rattle.views.proofs.hide.hide_row.Goals as goal
 use Rattle.views.proofs.hide.hide_row.Goals.{in-Some, in_default, in_default-2}
-
-pub loop-m-init : goal.loop-m-init
-loop-m-init g c = let laws = g.T.Tree.keeps c.args.tree.now in search (rules, sofar_start)
 
 pub push-requires : goal.push-requires
 push-requires g c =
@@ -30,8 +27,3 @@ returns-after-cut g c =
       | in_default w ↦ search (rules, sofar_hidden node_limit _ laws)
       | in_default-2 w ↦ search (rules, sofar_shown node_limit _ laws)
     ]) (omega arith)
-
-pub returns : goal.returns
-returns g c =
-    let laws = g.T.Tree.keeps c.args.tree.now in
-    search (rules, sofar_all node_limit _ laws)

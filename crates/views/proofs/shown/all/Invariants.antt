@@ -1,5 +1,5 @@
 use Rattle.std.proofs.Common.{◌≡◌, ◌-◌, take}
-use Rattle.views.proofs.row.all.Given as goal
+use Rattle.views.proofs.shown.all.Given as goal
 
 abbrev pub invariant-loop-m : goal.invariant-loop-m
 invariant-loop-m g l = l.row.items ≡ take (l.m - 1) (g.T.Tree.nodes l.tree)
