@@ -34,6 +34,7 @@ fn branch_row<T: Tree>(tree: &T, k: u16) -> Row
     let levels = root.depth.saturating_sub(1);
     let mut row = Row::new();
     row.push(raised(root, levels));
+    // Over `take_while` the loop got no invariant to start from, so it ends by `break`.
     for m in k + 1..=tree.count() {
         let node = tree.node(m);
         if node.depth <= root.depth {
