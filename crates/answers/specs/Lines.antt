@@ -6,6 +6,7 @@
 use Rattle.std.specs.Prelude.{ℕ, List, ◌++◌, length, Ok, Err, codes, decimal, Result}
 use Rattle.std.specs.List.{flat_map}
 use Rattle.tree.specs.Nodes.{Node}
+use Rattle.tree.specs.Told.{told_text}
 use Rattle.path.specs.Faults.{number, place}
 use Rattle.path.specs.Questions.{step_room, answer, steps_read}
 use Rattle.path.specs.declared.fault.QuestionFault.{QuestionFault}
@@ -18,7 +19,7 @@ abbrev pub nodes_line : List ℕ → List ℕ
 nodes_line os = decimal (length os) ++ (flat_map spaced os ++ codes "\n")
 
 abbrev pub refused_line : ℕ → ℕ → List ℕ
-refused_line n p = codes "refused " ++ (decimal n ++ (codes " at " ++ (decimal p ++ codes "\n")))
+refused_line n p = told_text n p ++ codes "\n"
 
 abbrev pub plan_refused_line : ℕ → ℕ → List ℕ
 plan_refused_line n p = codes "plan " ++ refused_line n p

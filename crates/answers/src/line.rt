@@ -7,6 +7,7 @@ ghost use Rattle.answers.specs.Lines.{answer_line, nodes_line, refused_line, pla
 use names::list::NameList;
 use path::question::read_question;
 use std::alloc::{AllocError, Global};
+use std::fmt::Write;
 use tree::refusal::Refusal;
 use tree::step::{Axis, Step, Test};
 use tree::trees::Tree;
@@ -25,18 +26,14 @@ const ANY_CHILD: Step = Step {
 pub fn refused<R: Refusal>(heap: Global, fault: &R) -> Result<String, AllocError>
     ensures { IfOk result (λ line. string_bytes line ≡ refused_line (R.Refusal.code fault.now) (R.Refusal.at fault.now)) }
 {
-    let number = fault.number();
-    let place = fault.place();
-    format!(in heap; "refused {number} at {place}\n")
+    format!(in heap; "{}\n", fault.told())
 }
 
 // The line that tells why a plan is refused.
 pub fn plan_refused<R: Refusal>(heap: Global, fault: &R) -> Result<String, AllocError>
     ensures { IfOk result (λ line. string_bytes line ≡ plan_refused_line (R.Refusal.code fault.now) (R.Refusal.at fault.now)) }
 {
-    let number = fault.number();
-    let place = fault.place();
-    format!(in heap; "plan refused {number} at {place}\n")
+    format!(in heap; "plan {}\n", fault.told())
 }
 
 fn nodes(heap: Global, origins: &[u16]) -> Result<String, AllocError>
@@ -45,7 +42,7 @@ fn nodes(heap: Global, origins: &[u16]) -> Result<String, AllocError>
     let count = origins.len();
     let mut line = format!(in heap; "{count}")?;
     for &origin in origins {
-        line.push_str(format!(in heap; " {origin}")?.as_str())?;
+        write!(line, " {origin}")?;
     }
     line.push_str("\n")?;
     Ok(line)
