@@ -11,10 +11,10 @@ use Rattle.names.proofs.Found.{none_some, some_same, cond_some}
 use Rattle.names.proofs.Firsts.{with_known, with_new, firsts_push, number_new, number_other, first_names_few}
 use Rattle.names.proofs.Names.{number_some, number_none, named_some}
 use Rattle.tree.specs.Nodes.{Node, nowhere, count, node_at, label_at}
-use Rattle.tree.proofs.Slots.{take_next}
 use Rattle.stored.specs.Plans.{Named, name_at, named_by, plan_of, names_of}
 use Rattle.stored.proofs.Storable.{Borne, plan_known}
 use Rattle.stored.proofs.Turns.{number_back}
+use Rattle.writer.proofs.NodeFields.{taken}
 use Rattle.writer.specs.declared.numbering.Numbering.{Numbering}
 use Rattle.writer.specs.Numberings.{ordered, Added, Numbers}
 use Rattle.writer.specs.Writings.{AllNamed, FirstNameless}
@@ -48,23 +48,23 @@ all_before ms ns m a l zero b h = absurd (omega arith)
 all_before ms ns m a l (suc j) b h =
     subst (λ (n : Node). n.label ≤ length ms) (get_or-take m ns j nowhere (omega arith)) (All-get_or (Borne ms) (take m ns) j nowhere (omega (arith, length-take-le m ns l)) a).1
 
-module _ (ms : List (List ℕ)) (ns : List Node) (m : ℕ) (l : m < count ns) (n : Numbering) (s : Sofar ms ns m n) where
-  pub nameless : length ms < label_at ns (m + 1) → FirstNameless ms ns (m + 1)
-  nameless h = record { some = omega arith; within = omega arith; before = all_before ms ns m s.named (omega arith); here = h }
+module _ (ms : List (List ℕ)) (ns : List Node) (k : ℕ) (some : 1 ≤ k) (most : k ≤ count ns) (n : Numbering) (s : Sofar ms ns (k - 1) n) where
+  pub nameless : length ms < label_at ns k → FirstNameless ms ns k
+  nameless h = record { some = some; within = most; before = λ j a b. all_before ms ns (k - 1) s.named (omega arith) j a (omega arith); here = h }
 
   abbrev seen : List (List ℕ)
-  seen = names_of (plan_of ms (take m ns))
+  seen = names_of (plan_of ms (take (k - 1) ns))
 
-  module _ (list : IsNameList ms) (label : ℕ) (is : label ≡ label_at ns (m + 1)) (low : 1 ≤ label) (high : label ≤ length ms) where
-    all_next : AllByRecursion (Borne ms) (take (m + 1) ns)
-    all_next = subst (AllByRecursion (Borne ms)) (sym (take_next ns m l)) (All-push (Borne ms) (take m ns) (node_at ns (m + 1)) s.named (omega (arith, is), omega (arith, is)))
+  module _ (list : IsNameList ms) (label : ℕ) (is : label ≡ label_at ns k) (low : 1 ≤ label) (high : label ≤ length ms) where
+    all_next : AllByRecursion (Borne ms) (take k ns)
+    all_next = subst (AllByRecursion (Borne ms)) (sym (taken ns k some most)) (All-push (Borne ms) (take (k - 1) ns) (node_at ns k) s.named (omega (arith, is), omega (arith, is)))
 
-    names_next : names_of (plan_of ms (take (m + 1) ns)) ≡ with_name (name_at ms label) seen
+    names_next : names_of (plan_of ms (take k ns)) ≡ with_name (name_at ms label) seen
     names_next =
-        ap (λ (z : List Node). names_of (plan_of ms z)) (take_next ns m l)
-        ∙ ap names_of (map_push (named_by ms) (take m ns) (node_at ns (m + 1)))
-        ∙ firsts_push (λ (p : Named). p.name) (plan_of ms (take m ns)) (named_by ms (node_at ns (m + 1)))
-        ∙ ap (λ (k : ℕ). with_name (name_at ms k) seen) (sym is)
+        ap (λ (z : List Node). names_of (plan_of ms z)) (taken ns k some most)
+        ∙ ap names_of (map_push (named_by ms) (take (k - 1) ns) (node_at ns k))
+        ∙ firsts_push (λ (p : Named). p.name) (plan_of ms (take (k - 1) ns)) (named_by ms (node_at ns k))
+        ∙ ap (λ (l : ℕ). with_name (name_at ms l) seen) (sym is)
 
     here : get_or n.numbers (label - 1) 0 ≡ number_of (name_at ms label) seen
     here = s.numbers.numbers label low high
@@ -78,48 +78,48 @@ module _ (ms : List (List ℕ)) (ns : List Node) (m : ℕ) (l : m < count ns) (n
 
     pub room : get_or n.numbers (label - 1) 0 ≡ 0 → n.count < 512
     room e =
-        let few = first_names_few (λ (p : Named). p.name) ms (plan_of ms (take (m + 1) ns)) (plan_known ms (take (m + 1) ns) all_next) in
+        let few = first_names_few (λ (p : Named). p.name) ms (plan_of ms (take k ns)) (plan_known ms (take k ns) all_next) in
         let more = ap length (names_next ∙ with_new (name_at ms label) seen (new e)) ∙ length_push seen (name_at ms label) in
         omega (arith, few, more, list.most, ap length s.numbers.names, ordered_long n)
 
     -- distinct names have numbers of their own
-    others : (k : ℕ) → 1 ≤ k → k ≤ length ms → (k - 1 ≡ label - 1 → ⊥) → name_at ms label ≡ name_at ms k → ⊥
-    others k a b d e = d (omega (arith, sym (number_back ms list.distinct k a b) ∙ ap (λ (z : List ℕ). number_of z ms) (sym e) ∙ number_back ms list.distinct label low high))
+    others : (l : ℕ) → 1 ≤ l → l ≤ length ms → (l - 1 ≡ label - 1 → ⊥) → name_at ms label ≡ name_at ms l → ⊥
+    others l a b d e = d (omega (arith, sym (number_back ms list.distinct l a b) ∙ ap (λ (z : List ℕ). number_of z ms) (sym e) ∙ number_back ms list.distinct label low high))
 
     module _ (o : Numbering) (added : Added n (label - 1) (name_at ms label) o) where
-      with_old : (get_or n.numbers (label - 1) 0 ≡ 0 → ⊥) → Numbers ms (take (m + 1) ns) o
+      with_old : (get_or n.numbers (label - 1) 0 ≡ 0 → ⊥) → Numbers ms (take k ns) o
       with_old e =
-          let same : names_of (plan_of ms (take (m + 1) ns)) ≡ seen = names_next ∙ with_known (name_at ms label) seen (old e) in
-          subst (Numbers ms (take (m + 1) ns)) (sym (added.known e)) (record {
+          let same : names_of (plan_of ms (take k ns)) ≡ seen = names_next ∙ with_known (name_at ms label) seen (old e) in
+          subst (Numbers ms (take k ns)) (sym (added.known e)) (record {
             names = s.numbers.names ∙ sym same;
-            numbers = λ k a b. s.numbers.numbers k a b ∙ ap (number_of (name_at ms k)) (sym same);
+            numbers = λ l a b. s.numbers.numbers l a b ∙ ap (number_of (name_at ms l)) (sym same);
           })
 
-      number_next : (e : get_or n.numbers (label - 1) 0 ≡ 0) (k : ℕ) → 1 ≤ k → k ≤ length ms → get_or (set n.numbers (label - 1) (length (ordered n) + 1)) (k - 1) 0 ≡ number_of (name_at ms k) (seen ++ name_at ms label ∷ [])
-      number_next e k a b =
+      number_next : (e : get_or n.numbers (label - 1) 0 ≡ 0) (l : ℕ) → 1 ≤ l → l ≤ length ms → get_or (set n.numbers (label - 1) (length (ordered n) + 1)) (l - 1) 0 ≡ number_of (name_at ms l) (seen ++ name_at ms label ∷ [])
+      number_next e l a b =
           ⊎_elim
-          (λ (h : k - 1 ≡ label - 1).
-          let same : k ≡ label = omega arith in
+          (λ (h : l - 1 ≡ label - 1).
+          let same : l ≡ label = omega arith in
           ap (λ (j : ℕ). get_or (set n.numbers (label - 1) (length (ordered n) + 1)) j 0) h
           ∙ get_or-set_same n.numbers (label - 1) (length (ordered n) + 1) 0 (omega (arith, n.labels, list.most))
           ∙ ap (λ (z : List (List ℕ)). length z + 1) s.numbers.names
           ∙ sym (number_new (name_at ms label) seen (new e))
           ∙ ap (λ (j : ℕ). number_of (name_at ms j) (seen ++ name_at ms label ∷ [])) (sym same))
-          (λ (h : k - 1 ≡ label - 1 → ⊥).
-          get_or-set_other n.numbers (label - 1) (k - 1) (length (ordered n) + 1) 0 h
-          ∙ s.numbers.numbers k a b
-          ∙ sym (number_other (name_at ms k) (name_at ms label) seen (others k a b h)))
-          (cases_eq (k - 1) (label - 1))
+          (λ (h : l - 1 ≡ label - 1 → ⊥).
+          get_or-set_other n.numbers (label - 1) (l - 1) (length (ordered n) + 1) 0 h
+          ∙ s.numbers.numbers l a b
+          ∙ sym (number_other (name_at ms l) (name_at ms label) seen (others l a b h)))
+          (cases_eq (l - 1) (label - 1))
 
-      with_next : get_or n.numbers (label - 1) 0 ≡ 0 → Numbers ms (take (m + 1) ns) o
+      with_next : get_or n.numbers (label - 1) 0 ≡ 0 → Numbers ms (take k ns) o
       with_next e =
-          let more : names_of (plan_of ms (take (m + 1) ns)) ≡ seen ++ name_at ms label ∷ [] = names_next ∙ with_new (name_at ms label) seen (new e) in
+          let more : names_of (plan_of ms (take k ns)) ≡ seen ++ name_at ms label ∷ [] = names_next ∙ with_new (name_at ms label) seen (new e) in
           record {
             names = added.names e ∙ ap (λ (z : List (List ℕ)). z ++ name_at ms label ∷ []) s.numbers.names ∙ sym more;
-            numbers = λ k a b. ap (λ (z : List ℕ). get_or z (k - 1) 0) (added.numbers e) ∙ number_next e k a b ∙ ap (number_of (name_at ms k)) (sym more);
+            numbers = λ l a b. ap (λ (z : List ℕ). get_or z (l - 1) 0) (added.numbers e) ∙ number_next e l a b ∙ ap (number_of (name_at ms l)) (sym more);
           }
 
-      pub sofar_more : Sofar ms ns (m + 1) o
+      pub sofar_more : Sofar ms ns k o
       sofar_more = record { named = all_next; numbers = ⊎_elim with_next with_old (cases_eq (get_or n.numbers (label - 1) 0) 0) }
 
 -- all nodes

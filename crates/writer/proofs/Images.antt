@@ -2,7 +2,7 @@
 use Rattle.std.proofs.Common.{◌≡◌, ℕ, suc, ◌+◌, ◌-◌, ◌*◌, ◌<◌, ◌≤◌, List, [], ◌∷◌, ◌++◌, length, get_or, drop, Ok, Err, sym, refl, ap, ◌∙◌, subst, ap₂, arith}
 use lib.ListN.{length-map}
 use Rattle.std.specs.List.{flat_map, AllByRecursion}
-use Rattle.std.proofs.lemmas.List.{append_assoc, length-append}
+use Rattle.std.proofs.lemmas.List.{length-append}
 use Rattle.names.specs.Lists.{number_of, ShortName, IsNameList}
 use Rattle.tree.specs.Nodes.{Node, Laws, nowhere, node_limit}
 use Rattle.tree.specs.Laws.{laws_chain}
@@ -14,10 +14,8 @@ use Rattle.stored.proofs.Storable.{Borne, chain_borne, trees_are_plans}
 use Rattle.stored.proofs.Turns.{length_by}
 use Rattle.writer.specs.declared.numbering.Numbering.{Numbering}
 use Rattle.writer.specs.Numberings.{ordered, Numbers}
-use Rattle.writer.specs.Overwrites.{overwritten}
 use Rattle.writer.specs.Writings.{AllNamed, Writes, numbered_field, numbered_body, numbered_image}
 use Rattle.writer.proofs.NodeFields.{length_fields}
-use Rattle.writer.proofs.Overwrites.{overwritten_first}
 
 pub body_long : (n : Numbering) (ns : List Node) → length (numbered_body n ns) ≡ 4 + (length (flat_map name_field (ordered n)) + 3 * length ns)
 body_long n ns = omega (arith, length-append (flat_map name_field (ordered n)) (two (length ns) ++ flat_map (numbered_field n.numbers) ns), length_fields n.numbers ns)
@@ -38,10 +36,6 @@ image_is ms ns n laws named k =
     ∙ ap₂ (λ (x : ℕ) (z : List ℕ). two (length names) ++ (flat_map name_field names ++ (two x ++ z))) many (fields_same ms n.numbers names 1 ns borne k.numbers) in
     ap (λ (b : List ℕ). 1 ∷ (four (length b) ++ b)) same
 
--- parts that were written one after another are the whole
-pub six_parts : (a b c d e f : List ℕ) → ((((a ++ b) ++ c) ++ d) ++ e) ++ f ≡ a ++ (b ++ (c ++ (d ++ (e ++ f))))
-six_parts a b c d e f = simp append_assoc
-
 pub image_long : (n : Numbering) (ns : List Node) → length (numbered_image n ns) ≡ 9 + (length (flat_map name_field (ordered n)) + 3 * length ns)
 image_long n ns = omega (arith, body_long n ns)
 
@@ -50,13 +44,12 @@ pub names_short : (ms : List (List ℕ)) (ns : List Node) (n : Numbering) → La
 names_short ms ns n laws list named k = subst (AllByRecursion ShortName) (sym k.names) (trees_are_plans ms ns list laws named).names.names
 
 -- what is promised of a writing with this numbering, whose image has k bytes
-module _ (ms : List (List ℕ)) (ns : List Node) (n : Numbering) (laws : Laws node_limit ns) (named : AllNamed ms ns) (h : Numbers ms ns n) (k : ℕ) (long : k ≡ 9 + (length (flat_map name_field (ordered n)) + 3 * length ns)) (was : List ℕ) where
+module _ (ms : List (List ℕ)) (ns : List Node) (n : Numbering) (laws : Laws node_limit ns) (named : AllNamed ms ns) (h : Numbers ms ns n) (k : ℕ) (long : k ≡ length (numbered_image n ns)) (was : List ℕ) where
   length_is : k ≡ length (image (plan_of ms ns))
-  length_is = long ∙ sym (image_long n ns) ∙ ap length (image_is ms ns n laws named h)
+  length_is = long ∙ ap length (image_is ms ns n laws named h)
 
   pub too_short : length was < k → Writes ms ns was (Err (Short k)) was
   too_short l = (named, length_is, l, refl)
 
-  pub all_written : (is : List ℕ) → k ≤ length was → is ≡ overwritten was 0 (numbered_image n ns) → Writes ms ns was (Ok k) is
-  all_written is l e =
-      (named, length_is, l, e ∙ overwritten_first was (numbered_image n ns) ∙ ap₂ (λ (x : List ℕ) (j : ℕ). x ++ drop j was) (image_is ms ns n laws named h) (image_long n ns ∙ sym long))
+  pub all_written : (is : List ℕ) → k ≤ length was → is ≡ numbered_image n ns ++ drop k was → Writes ms ns was (Ok k) is
+  all_written is l e = (named, length_is, l, e ∙ ap (λ (x : List ℕ). x ++ drop k was) (image_is ms ns n laws named h))

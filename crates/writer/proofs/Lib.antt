@@ -1,6 +1,6 @@
-mod Overwrites
+mod Outputs
 mod Lengths
 mod Appearances
-mod NodeFields
+pub mod NodeFields
 mod Images
 pub mod SamePlans

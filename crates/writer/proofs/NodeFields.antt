@@ -1,30 +1,23 @@
--- The fields of numbered nodes, one after another.
-use Rattle.std.proofs.Common.{◌≡◌, ℕ, ◌+◌, ◌*◌, ◌<◌, ◌≤◌, List, [], ◌∷◌, ◌++◌, length, get_or, take, sym, refl, ap, ◌∙◌, add-one, arith}
-use Rattle.std.specs.List.{flat_map, AllByRecursion}
-use Rattle.std.proofs.ByRecursion.{All-get_or}
+-- The fields of nodes, one after another, and how long those of numbered nodes are.
+use Rattle.std.proofs.Common.{◌≡◌, ℕ, ◌+◌, ◌-◌, ◌*◌, ◌≤◌, List, [], ◌∷◌, ◌++◌, length, take, sym, refl, ap, ◌∙◌, subst, arith}
+use Rattle.std.specs.List.{flat_map}
 use Rattle.std.proofs.lemmas.List.{flat_map_more, length-take-le}
-use Rattle.tree.specs.Nodes.{Node, Laws, nowhere, count, node_at, label_at, depth_at}
-use Rattle.tree.specs.Laws.{laws_follow}
+use Rattle.tree.specs.Nodes.{Node, count, node_at}
 use Rattle.tree.proofs.Slots.{take_next}
 use Rattle.writer.specs.Writings.{numbered_field}
+
+-- the nodes up to the node k, from those before it
+pub taken : (ns : List Node) (k : ℕ) → 1 ≤ k → k ≤ count ns → take k ns ≡ take (k - 1) ns ++ node_at ns k ∷ []
+taken ns k some most =
+    let e : k - 1 + 1 ≡ k = omega arith in
+    subst (λ (j : ℕ). take j ns ≡ take (k - 1) ns ++ node_at ns j ∷ []) e (take_next ns (k - 1) (omega arith))
+
+pub fields_more : (f : Node → List ℕ) (ns : List Node) (k : ℕ) → 1 ≤ k → k ≤ count ns → flat_map f (take (k - 1) ns) ++ f (node_at ns k) ≡ flat_map f (take k ns)
+fields_more f ns k some most = flat_map_more f [] (take (k - 1) ns) (node_at ns k) ∙ ap (flat_map f) (sym (taken ns k some most))
 
 pub length_fields : (numbers : List ℕ) (ns : List Node) → length (flat_map (numbered_field numbers) ns) ≡ 3 * length ns
 length_fields numbers [] = refl
 length_fields numbers (n ∷ ns) = let r = length_fields numbers ns in omega arith
 
-module _ (ns : List Node) (m : ℕ) (l : m < count ns) where
-  pub fields_more : (numbers : List ℕ) → flat_map (numbered_field numbers) (take m ns) ++ numbered_field numbers (node_at ns (m + 1)) ≡ flat_map (numbered_field numbers) (take (m + 1) ns)
-  fields_more numbers = flat_map_more (numbered_field numbers) [] (take m ns) (node_at ns (m + 1)) ∙ ap (flat_map (numbered_field numbers)) (sym (take_next ns m l))
-
-  pub front_long : (numbers : List ℕ) → length (flat_map (numbered_field numbers) (take m ns)) ≡ 3 * m
-  front_long numbers = length_fields numbers (take m ns) ∙ ap (λ (k : ℕ). 3 * k) (length-take-le m ns (omega arith))
-
-  pub label_most : (most : ℕ) → AllByRecursion (λ n. n.label ≤ most) ns → label_at ns (m + 1) ≤ most
-  label_most most a = let e : label_at ns (m + 1) ≡ (get_or ns m nowhere).label = ap (label_at ns) (add-one m) in omega (arith, All-get_or (λ (n : Node). n.label ≤ most) ns m nowhere l a)
-
-  module _ (limit : ℕ) (laws : Laws limit ns) where
-    pub label_some : 1 ≤ label_at ns (m + 1)
-    label_some = (laws.labels (m + 1) (omega arith) (omega arith)).0
-
-    pub depth_most : depth_at ns (m + 1) ≤ 64
-    depth_most = let e : depth_at ns (m + 1) ≡ (get_or ns m nowhere).depth = ap (depth_at ns) (add-one m) in omega (arith, (laws_follow limit ns laws m l).deep)
+pub front_long : (numbers : List ℕ) (ns : List Node) (m : ℕ) → m ≤ count ns → length (flat_map (numbered_field numbers) (take m ns)) ≡ 3 * m
+front_long numbers ns m l = length_fields numbers (take m ns) ∙ ap (λ (k : ℕ). 3 * k) (length-take-le m ns l)

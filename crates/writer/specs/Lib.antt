@@ -1,4 +1,4 @@
 pub mod Numberings
-pub mod Overwrites
+pub mod Outputs
 pub mod Writings
 pub mod Laws

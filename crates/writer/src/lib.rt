@@ -3,4 +3,5 @@
 
 pub mod laws;
 mod numbering;
+mod output;
 pub mod write;

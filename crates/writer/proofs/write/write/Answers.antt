@@ -1,4 +1,4 @@
-use Rattle.std.proofs.Common.{◌≡◌, ℕ, ◌+◌, ◌*◌, ◌≤◌, length, ap, ◌∙◌, arith, rules}
+use Rattle.std.proofs.Common.{◌≡◌, ℕ, ◌+◌, ◌*◌, ◌≤◌, length, sym, ap, ◌∙◌, arith, rules}
 use Rattle.std.specs.List.{flat_map, AllByRecursion}
 use Rattle.std.proofs.ByRecursion.{All-weaker}
 use Rattle.names.specs.Lists.{ShortName}
@@ -8,8 +8,9 @@ use Rattle.tree.specs.Nodes.{Node}
 use Rattle.stored.specs.Images.{name_field}
 use Rattle.stored.proofs.Openings.{length_names}
 use Rattle.writer.specs.Numberings.{ordered}
+use Rattle.writer.specs.Writings.{numbered_image}
 use Rattle.writer.proofs.Appearances.{ordered_long}
-use Rattle.writer.proofs.Images.{names_short, too_short, all_written}
+use Rattle.writer.proofs.Images.{image_long, names_short, too_short, all_written}
 use Rattle.writer.proofs.write.write.Goals as goal
 use Rattle.writer.proofs.write.write.Goals.{In_ok-number_names, After-image_length-length}
 
@@ -32,9 +33,11 @@ overflow_cast-result g c =
     let value = c.image_length-length.ensures.value in
     search rules
 
--- the length by the nodes, and not by their count
-value : (g : _) (c : After-image_length-length g) → c.image_length-length.result ≡ 9 + (length (flat_map name_field (ordered c.number_names.new.numbering)) + 3 * length (g.T.Tree.nodes c.args.tree.now))
-value g c = c.image_length-length.ensures.value ∙ ap (λ (k : ℕ). 9 + (length (flat_map name_field (ordered c.number_names.new.numbering)) + 3 * k)) c.count.ensures
+-- the length of the image that is written
+value : (g : _) (c : After-image_length-length g) → c.image_length-length.result ≡ length (numbered_image c.number_names.new.numbering (g.T.Tree.nodes c.args.tree.now))
+value g c =
+    let n = c.number_names.new.numbering in
+    c.image_length-length.ensures.value ∙ ap (λ (k : ℕ). 9 + (length (flat_map name_field (ordered n)) + 3 * k)) c.count.ensures ∙ sym (image_long n (g.T.Tree.nodes c.args.tree.now))
 
 pub returns-then-out-length : goal.returns-then-out-length
 returns-then-out-length g c =

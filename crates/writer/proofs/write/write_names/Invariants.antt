@@ -2,8 +2,8 @@ use Rattle.std.proofs.Common.{take}
 use Rattle.std.specs.List.{flat_map}
 use Rattle.names.specs.Lists.{texts}
 use Rattle.stored.specs.Images.{name_field}
-use Rattle.writer.proofs.Overwrites.{Laid}
+use Rattle.writer.specs.Outputs.{Wrote}
 use Rattle.writer.proofs.write.write_names.Given as goal
 
 abbrev pub invariant-loop-name : goal.invariant-loop-name
-invariant-loop-name l = Laid l.initial.out l.at (flat_map name_field (texts (take l.name-index l.names))) l.place l.out
+invariant-loop-name l = Wrote l.initial.output (flat_map name_field (texts (take l.name-index l.names))) l.output

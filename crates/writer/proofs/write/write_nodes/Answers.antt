@@ -1,49 +1,36 @@
-use Rattle.std.proofs.Common.{◌≡◌, ℕ, ◌+◌, ◌-◌, ◌≤◌, List, [], ◌∷◌, ◌++◌, length, get_or, take, ap, ◌∙◌, subst, ap₂, arith}
+use Rattle.std.proofs.Common.{◌≡◌, ℕ, ◌+◌, ◌-◌, List, [], ◌∷◌, ◌++◌, get_or, take, ap, ◌∙◌, subst, ap₂, arith}
 use Rattle.std.specs.List.{flat_map}
 use Rattle.std.proofs.lemmas.List.{take_all}
-use Rattle.tree.specs.Nodes.{node_at, node_limit}
+use Rattle.tree.specs.Nodes.{node_at}
 use Rattle.stored.specs.Bytes.{two}
-use Rattle.writer.specs.Overwrites.{overwritten}
+use Rattle.writer.specs.Outputs.{Wrote}
 use Rattle.writer.specs.Writings.{numbered_field}
-use Rattle.writer.proofs.NodeFields.{length_fields, fields_more, front_long, label_most, label_some}
-use Rattle.writer.proofs.Overwrites.{Laid, laid_none, laid_more}
+use Rattle.writer.proofs.NodeFields.{fields_more, front_long}
+use Rattle.writer.proofs.Outputs.{wrote_more, room_left}
 use Rattle.writer.proofs.write.write_nodes.Goals as goal
+use Rattle.writer.proofs.write.write_nodes.Goals.{After-write}
 
-pub loop-node-init : goal.loop-node-init
-loop-node-init g c = (omega arith, laid_none c.args.out.now c.args.at (omega arith))
+pub write-requires : goal.write-requires
+write-requires g c = omega (arith, room_left c.loop-node.invariant, front_long c.args.numbering.now.numbers (g.T.Tree.nodes c.args.tree.now) (c.loop-node.node - 1) (omega arith))
 
-pub number-requires : goal.number-requires
-number-requires g c =
+-- the field of the node is written behind those before it
+field_wrote : (g : _) (c : After-write g) → Wrote c.args.output.now (flat_map (numbered_field c.args.numbering.now.numbers) (take c.loop-node.node (g.T.Tree.nodes c.args.tree.now))) c.write.new.self
+field_wrote g c =
     let ns = g.T.Tree.nodes c.args.tree.now in
-    record {
-      low = omega (arith, c.label.ensures, label_some ns c.loop-node.node (omega arith) node_limit (g.T.Tree.keeps c.args.tree.now));
-      high = omega (arith, c.label.ensures, label_most ns c.loop-node.node (omega arith) 512 c.requires.named);
-    }
-
-pub overwrite-place-requires : goal.overwrite-place-requires
-overwrite-place-requires g c =
-    let ns = g.T.Tree.nodes c.args.tree.now in
-    omega (arith, c.requires.room, c.loop-node.invariant.1.end, c.loop-node.invariant.1.long, front_long ns c.loop-node.node (omega arith) c.args.numbering.now.numbers)
+    let numbers = c.args.numbering.now.numbers in
+    let k = c.loop-node.node in
+    let part = get_or c.to_be_bytes.result 0 0 ∷ get_or c.to_be_bytes.result 1 0 ∷ c.depth.result ∷ [] in
+    let field : part ≡ numbered_field numbers (node_at ns k) =
+    ap₂ (λ (x : List ℕ) (d : ℕ). get_or x 0 0 ∷ get_or x 1 0 ∷ d ∷ []) (c.to_be_bytes.ensures ∙ ap two (c.number.ensures ∙ ap (λ (l : ℕ). get_or numbers (l - 1) 0) c.label.ensures)) c.depth.ensures in
+    subst (λ (p : List ℕ). Wrote c.args.output.now p c.write.new.self)
+    (ap (λ (z : List ℕ). flat_map (numbered_field numbers) (take (k - 1) ns) ++ z) field ∙ fields_more (numbered_field numbers) ns k (omega arith) (omega arith))
+    (wrote_more c.loop-node.invariant c.write.ensures)
 
 pub loop-node-preserved : goal.loop-node-preserved
 loop-node-preserved g c =
-    let ns = g.T.Tree.nodes c.args.tree.now in
-    let numbers = c.args.numbering.now.numbers in
-    let m = c.loop-node.node in
-    let bytes = c.to_be_bytes.result in
-    let part = get_or bytes 0 0 ∷ get_or bytes 1 0 ∷ c.depth.result ∷ [] in
-    let room : c.loop-node.place + 3 ≤ length c.args.out.now = omega (arith, c.requires.room, c.loop-node.invariant.1.end, front_long ns m (omega arith) numbers) in
-    let laid = laid_more c.args.out.now c.args.at (flat_map (numbered_field numbers) (take m ns)) c.loop-node.place c.loop-node.out part c.overwrite-place.result c.overwrite-place.new.out c.loop-node.invariant.1 room c.overwrite-place.ensures.bytes c.overwrite-place.ensures.end in
-    let field : part ≡ numbered_field numbers (node_at ns (m + 1)) =
-    ap₂ (λ (x : List ℕ) (d : ℕ). get_or x 0 0 ∷ get_or x 1 0 ∷ d ∷ []) (c.to_be_bytes.ensures ∙ ap two (c.number.ensures ∙ ap (λ (l : ℕ). get_or numbers (l - 1) 0) c.label.ensures)) c.depth.ensures in
-    (omega arith, subst (λ (p : List ℕ). Laid c.args.out.now c.args.at p c.overwrite-place.result c.overwrite-place.new.out) (ap (λ (z : List ℕ). flat_map (numbered_field numbers) (take m ns) ++ z) field ∙ fields_more ns m (omega arith) numbers) laid)
+    let e : c.loop-node.node ≡ c.loop-node.node + 1 - 1 = omega arith in
+    subst (λ (k : ℕ). Wrote c.args.output.now (flat_map (numbered_field c.args.numbering.now.numbers) (take k (g.T.Tree.nodes c.args.tree.now))) c.write.new.self) e (field_wrote g (goal.at.loop-node-preserved g c).After-write)
 
-pub returns : goal.returns
-returns g c =
-    let ns = g.T.Tree.nodes c.args.tree.now in
-    let numbers = c.args.numbering.now.numbers in
-    let all = ap (flat_map (numbered_field numbers)) (take_all c.loop-node.node ns (omega arith)) in
-    record {
-      bytes = c.loop-node.invariant.1.bytes ∙ ap (overwritten c.args.out.now c.args.at) all;
-      end = c.loop-node.invariant.1.end ∙ ap (λ (p : List ℕ). c.args.at + length p) all ∙ ap (λ (k : ℕ). c.args.at + k) (length_fields numbers ns);
-    }
+pub returns-2 : goal.returns-2
+returns-2 g c =
+    subst (λ (s : List _). Wrote c.args.output.now (flat_map (numbered_field c.args.numbering.now.numbers) s) c.write.new.self) (take_all c.loop-node.node (g.T.Tree.nodes c.args.tree.now) (omega arith)) (field_wrote g (goal.at.returns-2 g c).After-write)
