@@ -1,6 +1,6 @@
 -- What writing an image answers, and every byte afterwards. Assumes nothing.
 --     Writes ms ns was r is     writing the tree with the nodes ns and the names ms answers r and turns the bytes `was` into `is`
-use Rattle.std.specs.Prelude.{◌≡◌, ℕ, ◌-◌, ◌<◌, ◌≤◌, List, [], ◌∷◌, ◌++◌, length, drop, Ok, Err, Result, slice_index}
+use Rattle.std.specs.Prelude.{◌≡◌, ℕ, ◌<◌, ◌≤◌, List, [], ◌∷◌, ◌++◌, length, drop, Ok, Err, Option, Result}
 use Rattle.std.specs.List.{flat_map, AllByRecursion}
 use Rattle.tree.specs.Nodes.{Node, count, label_at}
 use Rattle.stored.specs.declared.fault.WriteFault.{WriteFault}
@@ -9,7 +9,7 @@ use Rattle.stored.specs.Bytes.{two, four}
 use Rattle.stored.specs.Plans.{plan_of}
 use Rattle.stored.specs.Images.{name_field, image}
 use Rattle.writer.specs.declared.numbering.Numbering.{Numbering}
-use Rattle.writer.specs.Numberings.{ordered, Numbers}
+use Rattle.writer.specs.Numberings.{ordered, number_at, Numbers}
 
 -- every label is the number of a name
 abbrev pub AllNamed : List (List ℕ) → List Node → Type 0
@@ -28,8 +28,8 @@ Writes ms ns was (Err (Short n)) is = AllNamed ms ns × (n ≡ length (image (pl
 Writes ms ns was (Err (Nameless k)) is = FirstNameless ms ns k × (is ≡ was)
 
 -- the field of a node whose label, from 1 on, has its number among `numbers`
-abbrev pub numbered_field : List ℕ → Node → List ℕ
-numbered_field numbers n = two (slice_index numbers (n.label - 1)) ++ n.depth ∷ []
+abbrev pub numbered_field : List (Option ℕ) → Node → List ℕ
+numbered_field numbers n = two (number_at numbers n.label) ++ n.depth ∷ []
 
 -- numbering the names of all nodes answers r and leaves the numbering n
 abbrev pub NumberedAll : List (List ℕ) → List Node → Result (Unit {0}) WriteFault → Numbering → Type 0

@@ -1,7 +1,6 @@
 // Writing the image of a tree.
-ghost use Rattle.std.specs.Prelude.{◌≡◌, ◌*◌, ◌≤◌, [], ◌++◌, length as length_of, drop, replicate};
+ghost use Rattle.std.specs.Prelude.{◌≡◌, ◌*◌, ◌≤◌, [], ◌++◌, length as length_of, drop, None, replicate};
 ghost use Rattle.std.specs.List.{flat_map, AllByRecursion};
-ghost use Rattle.names.specs.Lists.{ShortName, texts};
 ghost use Rattle.names.specs.NameLists.{listed};
 ghost use Rattle.stored.specs.Images.{name_field};
 ghost use Rattle.writer.specs.Numberings.{ordered};
@@ -26,7 +25,7 @@ fn number_names<'t, T: Tree>(
     numbering: &mut Numbering<'t>,
 ) -> Result<(), WriteFault>
     requires names { ordered numbering.old ≡ [] }
-    requires numbers { numbering.old.numbers ≡ replicate 512 0 }
+    requires numbers { numbering.old.numbers ≡ replicate 512 None }
     ensures { NumberedAll (listed names.now) (T.Tree.nodes tree.now) result numbering.new }
 {
     for node in 1..=tree.count() {
@@ -39,12 +38,11 @@ fn number_names<'t, T: Tree>(
     Ok(())
 }
 
-fn write_names(output: &mut Output<'_>, names: &[&[u8]])
-    requires short { AllByRecursion ShortName (texts names.now) }
-    requires room { length_of (flat_map name_field (texts names.now)) ≤ length_of (rest output.old) }
-    ensures { Wrote output.old (flat_map name_field (texts names.now)) output.new }
+fn write_names(output: &mut Output<'_>, numbering: &Numbering<'_>)
+    requires { length_of (flat_map name_field (ordered numbering.now)) ≤ length_of (rest output.old) }
+    ensures { Wrote output.old (flat_map name_field (ordered numbering.now)) output.new }
 {
-    for name in names {
+    for &name in numbering.names() {
         output.write(&[name.len() as u8]);
         output.write(name);
     }
@@ -64,18 +62,17 @@ fn write_nodes<T: Tree>(output: &mut Output<'_>, tree: &T, numbering: &Numbering
 // Writes the whole image, which has this length.
 fn write_all<T: Tree>(out: &mut [u8], length: usize, tree: &T, numbering: &Numbering<'_>)
     requires named { AllByRecursion (λ n. n.label ≤ 512) (T.Tree.nodes tree.now) }
-    requires short { AllByRecursion ShortName (ordered numbering.now) }
     requires value { length ≡ length_of (numbered_image numbering.now (T.Tree.nodes tree.now)) }
     requires room { length ≤ length_of out.old }
     ensures { out.new ≡ numbered_image numbering.now (T.Tree.nodes tree.now) ++ drop length out.old }
 {
-    let names = numbering.names();
+    let names = numbering.names().len() as u16;
     let body = (length - HEADER) as u32;
     let mut output = Output::new(out);
     output.write(&[VERSION]);
     output.write(&body.to_be_bytes());
-    output.write(&(names.len() as u16).to_be_bytes());
-    write_names(&mut output, names);
+    output.write(&names.to_be_bytes());
+    write_names(&mut output, numbering);
     output.write(&tree.count().to_be_bytes());
     write_nodes(&mut output, tree, numbering);
 }

@@ -1,11 +1,11 @@
 // Numbering names, and what their numbers are.
-ghost use Rattle.std.specs.Prelude.{◌≡◌, ◌+◌, ◌-◌, ◌*◌, ◌<◌, ◌≤◌, [], length, replicate, slice_index};
-ghost use Rattle.std.specs.List.{flat_map, AllByRecursion};
-ghost use Rattle.names.specs.Lists.{ShortName, texts};
-ghost use Rattle.stored.specs.Images.{name_field};
-ghost use Rattle.writer.specs.Numberings.{ordered, Added};
+ghost use Rattle.std.specs.Prelude.{◌≡◌, ◌+◌, ◌-◌, ◌*◌, ◌<◌, ◌≤◌, [], length, None, replicate, slice_index_or};
+ghost use Rattle.std.specs.List.{sum_by};
+ghost use Rattle.std.specs.Option.{unwrap_or};
+ghost use Rattle.writer.specs.Numberings.{ordered, number_at, Added};
 
-use super::{NOTHING, Numbering};
+use super::Numbering;
+use arrayvec::ArrayVec;
 
 // The version, the length, and the counts of names and nodes.
 const FIXED: usize = 9;
@@ -14,13 +14,11 @@ impl<'t> Numbering<'t> {
     // No name has appeared.
     pub fn new() -> Numbering<'t>
         ensures names { ordered result ≡ [] }
-        ensures numbers { result.numbers ≡ replicate 512 0 }
+        ensures numbers { result.numbers ≡ replicate 512 None }
     {
-        let nothing: &[u8] = &NOTHING;
         Numbering {
-            numbers: [0; 512],
-            names: [nothing; 512],
-            count: 0,
+            numbers: [None; 512],
+            names: ArrayVec::new(),
         }
     }
 
@@ -28,43 +26,39 @@ impl<'t> Numbering<'t> {
     pub fn add(&mut self, label: u16, name: &'t [u8])
         requires low { 1 ≤ label }
         requires high { label ≤ 512 }
-        requires room { slice_index self.old.numbers (label - 1) ≡ 0 → self.old.count < 512 }
+        requires short { length name.now ≤ 64 }
+        requires room { slice_index_or self.old.numbers (label - 1) None ≡ None → length (ordered self.old) < 512 }
         ensures { Added self.old (label - 1) name.now self.new }
     {
         let at = label as usize - 1;
-        if self.numbers[at] == 0 {
-            self.names[self.count as usize] = name;
-            self.count += 1;
-            self.numbers[at] = self.count;
+        let number = self.numbers[at];
+        if number.is_none() {
+            self.names.push(name);
+            self.numbers[at] = Some(self.names.len() as u16);
         }
     }
 
-    // The number of a label's name.
+    // The number of a label's name, or 0 where that has not appeared.
     pub fn number(&self, label: u16) -> u16
         requires low { 1 ≤ label }
         requires high { label ≤ 512 }
-        ensures { result ≡ slice_index self.now.numbers (label - 1) }
+        ensures { result ≡ number_at self.now.numbers label }
     {
-        self.numbers[label as usize - 1]
+        self.numbers[label as usize - 1].unwrap_or(0)
     }
 
     // The names in their order.
     pub fn names(&self) -> &[&'t [u8]]
-        ensures { texts result.now ≡ ordered self.now }
+        ensures { result.now ≡ self.now.names.items }
     {
-        &self.names[0..self.count as usize]
+        self.names.as_slice()
     }
 
     // How long the image of a tree with these names and so many nodes is.
     pub fn image_length(&self, nodes: u16) -> usize
-        requires { AllByRecursion ShortName (ordered self.now) }
-        ensures value { result ≡ 9 + (length (flat_map name_field (ordered self.now)) + 3 * nodes) }
+        ensures value { result ≡ 9 + (sum_by (λ name. 1 + length name.now) self.now.names.items + 3 * nodes) }
     {
-        let names = self.names();
-        let mut length = FIXED + 3 * nodes as usize;
-        for name in names {
-            length += 1 + name.len();
-        }
-        length
+        let names: usize = self.names().iter().map(|name| 1 + name.len()).sum();
+        FIXED + names + 3 * nodes as usize
     }
 }

@@ -1,8 +1,8 @@
-use Rattle.std.proofs.Common.{◌≡◌, ℕ, ◌+◌, ◌-◌, subst, arith}
+use Rattle.std.proofs.Common.{◌≡◌, ℕ, ◌+◌, ◌-◌, length, ap, subst, arith}
 use Rattle.names.specs.NameLists.{listed}
 use Rattle.names.proofs.Names.{list_to}
 use Rattle.writer.specs.Numberings.{Added}
-use Rattle.writer.proofs.Appearances.{Sofar, sofar_none, named_is, named_not, nameless, room, sofar_more, sofar_all}
+use Rattle.writer.proofs.Appearances.{Sofar, sofar_none, name_short, named_is, named_not, nameless, room, sofar_more, sofar_all}
 use Rattle.writer.proofs.write.number_names.Goals as goal
 use Rattle.writer.proofs.write.number_names.Goals.{After-add}
 
@@ -27,6 +27,7 @@ add-requires g c =
     record {
       low = is.0;
       high = omega (arith, is.1, list.most);
+      short = omega (arith, ap length is.2, name_short ms list c.label-label.result (omega (arith, is.1)));
       room = room ms (g.T.Tree.nodes c.args.tree.now) c.loop-node.node (omega arith) (omega arith) c.loop-node.numbering c.loop-node.invariant list c.label-label.result c.label-label.ensures is.0 is.1;
     }
 

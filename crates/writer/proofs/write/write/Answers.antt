@@ -1,33 +1,19 @@
 use Rattle.std.proofs.Common.{◌≡◌, ℕ, ◌+◌, ◌*◌, ◌≤◌, length, sym, ap, ◌∙◌, arith, rules}
-use Rattle.std.specs.List.{flat_map, AllByRecursion}
+use Rattle.std.specs.List.{sum_by}
 use Rattle.std.proofs.ByRecursion.{All-weaker}
-use Rattle.names.specs.Lists.{ShortName}
 use Rattle.names.specs.NameLists.{listed}
 use Rattle.names.proofs.Names.{list_to}
 use Rattle.tree.specs.Nodes.{Node}
-use Rattle.stored.specs.Images.{name_field}
-use Rattle.stored.proofs.Openings.{length_names}
-use Rattle.writer.specs.Numberings.{ordered}
 use Rattle.writer.specs.Writings.{numbered_image}
-use Rattle.writer.proofs.Appearances.{ordered_long}
-use Rattle.writer.proofs.Images.{image_long, names_short, too_short, all_written}
+use Rattle.writer.proofs.Lengths.{lengths_most}
+use Rattle.writer.proofs.Images.{image_long, too_short, all_written}
 use Rattle.writer.proofs.write.write.Goals as goal
-use Rattle.writer.proofs.write.write.Goals.{In_ok-number_names, After-image_length-length}
-
-short : (g : _) (c : In_ok-number_names g) → AllByRecursion ShortName (ordered c.number_names.new.numbering)
-short g c =
-    let ms = listed c.args.names.now in
-    let done = c.in_ok-number_names.ensures in
-    names_short ms (g.T.Tree.nodes c.args.tree.now) c.number_names.new.numbering (g.T.Tree.keeps c.args.tree.now) (list_to ms c.args.names.now.good) done.0 done.1
-
-pub image_length-length-requires : goal.image_length-length-requires
-image_length-length-requires g c = short g (goal.at.image_length-length-requires g c).In_ok-number_names
+use Rattle.writer.proofs.write.write.Goals.{After-image_length-length}
 
 pub overflow_cast-result : goal.overflow_cast-result
 overflow_cast-result g c =
     let n = c.number_names.new.numbering in
-    let names = length_names (ordered n) (short g (goal.at.overflow_cast-result g c).In_ok-number_names) in
-    let long = ordered_long n in
+    let names = lengths_most n.names.items n.short n.few in
     let nodes = (g.T.Tree.keeps c.args.tree.now).most in
     let count = c.count.ensures in
     let value = c.image_length-length.ensures.value in
@@ -37,7 +23,7 @@ overflow_cast-result g c =
 value : (g : _) (c : After-image_length-length g) → c.image_length-length.result ≡ length (numbered_image c.number_names.new.numbering (g.T.Tree.nodes c.args.tree.now))
 value g c =
     let n = c.number_names.new.numbering in
-    c.image_length-length.ensures.value ∙ ap (λ (k : ℕ). 9 + (length (flat_map name_field (ordered n)) + 3 * k)) c.count.ensures ∙ sym (image_long n (g.T.Tree.nodes c.args.tree.now))
+    c.image_length-length.ensures.value ∙ ap (λ (k : ℕ). 9 + (sum_by (λ name. 1 + length name.now) n.names.items + 3 * k)) c.count.ensures ∙ sym (image_long n (g.T.Tree.nodes c.args.tree.now))
 
 pub returns-then-out-length : goal.returns-then-out-length
 returns-then-out-length g c =
@@ -50,7 +36,6 @@ write_all-requires g c =
     let list = list_to ms c.args.names.now.good in
     record {
       named = All-weaker (λ (n : Node). n.label ≤ length ms) (λ (n : Node). n.label ≤ 512) (λ n l. omega (arith, list.most)) (g.T.Tree.nodes c.args.tree.now) c.in_ok-number_names.ensures.0;
-      short = short g (goal.at.write_all-requires g c).In_ok-number_names;
       value = value g (goal.at.write_all-requires g c).After-image_length-length;
       room = c.if-out-length.false;
     }

@@ -1,36 +1,24 @@
-use Rattle.std.proofs.Common.{◌≤◌, length, take, sym, ap, ◌∙◌, subst, arith, rules}
-use lib.ListN.{length-map}
-use Rattle.std.specs.List.{flat_map, AllByRecursion}
-use Rattle.std.proofs.lemmas.List.{length-take-le}
-use Rattle.names.specs.Lists.{ShortName, texts}
-use Rattle.stored.specs.Images.{name_field}
-use Rattle.writer.proofs.Lengths.{length_more, fields_short, name_short, fields_all}
+use Rattle.std.proofs.Common.{◌≡◌, ◌+◌, ◌≤◌, length, arith, rules}
+use Rattle.std.specs.List.{sum_by}
+use Rattle.writer.proofs.Lengths.{lengths_most}
 use Rattle.writer.proofs.numbering.Numbering.image_length.Goals as goal
-use Rattle.writer.proofs.numbering.Numbering.image_length.Goals.{In-loop-name}
+use Rattle.writer.proofs.numbering.Numbering.image_length.Goals.{After-sum-names}
 
-few : (c : In-loop-name) → length c.names-names.result.now ≤ 512
-few c =
+pub sum-names-requires-clause-fits : goal.sum-names-requires-clause-fits
+sum-names-requires-clause-fits c =
     let n = c.args.self.now in
-    omega (arith, length-map c.names-names.result.now (λ x. x.now), ap length c.names-names.ensures, length-map (take n.count n.names) (λ x. x.now), length-take-le n.count n.names (omega arith))
-
-short : (c : In-loop-name) → AllByRecursion ShortName (texts c.names-names.result.now)
-short c = subst (AllByRecursion ShortName) (sym c.names-names.ensures) c.requires
-
-pub overflow_add-length-in-loop-name-2 : goal.overflow_add-length-in-loop-name-2
-overflow_add-length-in-loop-name-2 c =
-    let here = (goal.at.overflow_add-length-in-loop-name-2 c).In-loop-name in
-    let names = c.names-names.result.now in
-    let most = few here in
-    let fields = fields_short names c.loop-name.name-index (short here) (omega arith) in
-    let one = name_short names c.loop-name.name-index (short here) c.loop-name-test.true in
+    let most = lengths_most n.names.items n.short n.few in
     search rules
 
-pub loop-name-preserved : goal.loop-name-preserved
-loop-name-preserved c = let more = length_more c.names-names.result.now c.loop-name.name-index c.loop-name-test.true in omega (arith, c.loop-name.invariant)
+sum_most : (c : After-sum-names) → c.sum-names.result ≤ 33280
+sum_most c =
+    let n = c.args.self.now in
+    let most = lengths_most n.names.items n.short n.few in
+    let sum : c.sum-names.result ≡ sum_by (λ name. 1 + length name.now) n.names.items = search rules in
+    omega arith
 
-pub returns : goal.returns
-returns c = record {
-  value =
-      let all = ap length (fields_all c.names-names.result.now c.loop-name.name-index (omega arith) ∙ ap (flat_map name_field) c.names-names.ensures) in
-      omega (arith, c.loop-name.invariant);
-}
+pub overflow_add-result : goal.overflow_add-result
+overflow_add-result c = let most = sum_most (goal.at.overflow_add-result c).After-sum-names in search rules
+
+pub overflow_add-result-2 : goal.overflow_add-result-2
+overflow_add-result-2 c = let most = sum_most (goal.at.overflow_add-result-2 c).After-sum-names in search rules
