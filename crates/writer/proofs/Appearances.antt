@@ -24,10 +24,10 @@ pub record Sofar (ms : List (List ℕ)) (ns : List Node) (m : ℕ) (n : Numberin
   pub named : AllByRecursion (Borne ms) (take m ns)
   pub numbers : Numbers ms (take m ns) n
 
-pub sofar_none : (ms : List (List ℕ)) (ns : List Node) (n : Numbering) → length ms ≤ 512 → ordered n ≡ [] → n.numbers ≡ replicate 512 None → Sofar ms ns 0 n
+pub sofar_none : (ms : List (List ℕ)) (ns : List Node) (n : Numbering) → length ms ≤ 512 → ordered n ≡ [] → n.numbers ≡ replicate 513 None → Sofar ms ns 0 n
 sofar_none ms ns n few e f = record {
   named = tt;
-  numbers = record { names = e; numbers = λ l a b. ap (λ (z : List (Option ℕ)). get_or z (l - 1) None) f ∙ get_or-replicate 512 (l - 1) None None (omega arith) };
+  numbers = record { names = e; numbers = λ l a b. ap (λ (z : List (Option ℕ)). get_or z l None) f ∙ get_or-replicate 513 l None None (omega arith) };
 }
 
 -- a number that is held, and none
@@ -84,28 +84,28 @@ module _ (ms : List (List ℕ)) (ns : List Node) (k : ℕ) (some : 1 ≤ k) (mos
         ∙ firsts_push (λ (p : Named). p.name) (plan_of ms (take (k - 1) ns)) (named_by ms (node_at ns k))
         ∙ ap (λ (l : ℕ). with_name (name_at ms l) seen) (sym is)
 
-    here : get_or n.numbers (label - 1) None ≡ held (number_of (name_at ms label) seen)
+    here : get_or n.numbers label None ≡ held (number_of (name_at ms label) seen)
     here = s.numbers.numbers label low high
 
     -- the name has no number yet exactly if it has not appeared
-    new : get_or n.numbers (label - 1) None ≡ None → length seen ≤ before (name_at ms label) seen
+    new : get_or n.numbers label None ≡ None → length seen ≤ before (name_at ms label) seen
     new e = ⊎_elim (λ (h : before (name_at ms label) seen < length seen). absurd (omega (arith, held_none _ (sym here ∙ e), number_some (name_at ms label) seen h))) (λ (h : length seen ≤ before (name_at ms label) seen). h) (cases_lt (before (name_at ms label) seen) (length seen))
 
-    old : (get_or n.numbers (label - 1) None ≡ None → ⊥) → before (name_at ms label) seen < length seen
+    old : (get_or n.numbers label None ≡ None → ⊥) → before (name_at ms label) seen < length seen
     old e = ⊎_elim (λ (h : before (name_at ms label) seen < length seen). h) (λ (h : length seen ≤ before (name_at ms label) seen). absurd (e (here ∙ sym (ap held (number_none (name_at ms label) seen h))))) (cases_lt (before (name_at ms label) seen) (length seen))
 
-    pub room : get_or n.numbers (label - 1) None ≡ None → length (ordered n) < 512
+    pub room : get_or n.numbers label None ≡ None → length (ordered n) < 512
     room e =
         let few = first_names_few (λ (p : Named). p.name) ms (plan_of ms (take k ns)) (plan_known ms (take k ns) all_next) in
         let more = ap length (names_next ∙ with_new (name_at ms label) seen (new e)) ∙ length_push seen (name_at ms label) in
         omega (arith, few, more, list.most, ap length s.numbers.names)
 
     -- distinct names have numbers of their own
-    others : (l : ℕ) → 1 ≤ l → l ≤ length ms → (l - 1 ≡ label - 1 → ⊥) → name_at ms label ≡ name_at ms l → ⊥
+    others : (l : ℕ) → 1 ≤ l → l ≤ length ms → (l ≡ label → ⊥) → name_at ms label ≡ name_at ms l → ⊥
     others l a b d e = d (omega (arith, sym (number_back ms list.distinct l a b) ∙ ap (λ (z : List ℕ). number_of z ms) (sym e) ∙ number_back ms list.distinct label low high))
 
-    module _ (o : Numbering) (added : Added n (label - 1) (name_at ms label) o) where
-      with_old : (get_or n.numbers (label - 1) None ≡ None → ⊥) → Numbers ms (take k ns) o
+    module _ (o : Numbering) (added : Added n label (name_at ms label) o) where
+      with_old : (get_or n.numbers label None ≡ None → ⊥) → Numbers ms (take k ns) o
       with_old e =
           let same : names_of (plan_of ms (take k ns)) ≡ seen = names_next ∙ with_known (name_at ms label) seen (old e) in
           subst (Numbers ms (take k ns)) (sym (added.known e)) (record {
@@ -113,34 +113,34 @@ module _ (ms : List (List ℕ)) (ns : List Node) (k : ℕ) (some : 1 ≤ k) (mos
             numbers = λ l a b. s.numbers.numbers l a b ∙ ap (λ (z : List (List ℕ)). held (number_of (name_at ms l) z)) (sym same);
           })
 
-      number_next : (e : get_or n.numbers (label - 1) None ≡ None) (l : ℕ) → 1 ≤ l → l ≤ length ms → get_or (set n.numbers (label - 1) (Some (length (ordered n) + 1))) (l - 1) None ≡ held (number_of (name_at ms l) (seen ++ name_at ms label ∷ []))
+      number_next : (e : get_or n.numbers label None ≡ None) (l : ℕ) → 1 ≤ l → l ≤ length ms → get_or (set n.numbers label (Some (length (ordered n) + 1))) l None ≡ held (number_of (name_at ms l) (seen ++ name_at ms label ∷ []))
       number_next e l a b =
           let one = length (ordered n) + 1 in
           ⊎_elim
-          (λ (h : l - 1 ≡ label - 1).
+          (λ (h : l ≡ label).
           let same : l ≡ label = omega arith in
-          ap (λ (j : ℕ). get_or (set n.numbers (label - 1) (Some one)) j None) h
-          ∙ get_or-set_same n.numbers (label - 1) (Some one) None (omega (arith, n.labels, list.most))
+          ap (λ (j : ℕ). get_or (set n.numbers label (Some one)) j None) h
+          ∙ get_or-set_same n.numbers label (Some one) None (omega (arith, n.labels, list.most))
           ∙ held_more (length (ordered n))
           ∙ ap (λ (z : List (List ℕ)). held (length z + 1)) s.numbers.names
           ∙ ap held (sym (number_new (name_at ms label) seen (new e)))
           ∙ ap (λ (j : ℕ). held (number_of (name_at ms j) (seen ++ name_at ms label ∷ []))) (sym same))
-          (λ (h : l - 1 ≡ label - 1 → ⊥).
-          get_or-set_other n.numbers (label - 1) (l - 1) (Some one) None h
+          (λ (h : l ≡ label → ⊥).
+          get_or-set_other n.numbers label l (Some one) None h
           ∙ s.numbers.numbers l a b
           ∙ ap held (sym (number_other (name_at ms l) (name_at ms label) seen (others l a b h))))
-          (cases_eq (l - 1) (label - 1))
+          (cases_eq l label)
 
-      with_next : get_or n.numbers (label - 1) None ≡ None → Numbers ms (take k ns) o
+      with_next : get_or n.numbers label None ≡ None → Numbers ms (take k ns) o
       with_next e =
           let more : names_of (plan_of ms (take k ns)) ≡ seen ++ name_at ms label ∷ [] = names_next ∙ with_new (name_at ms label) seen (new e) in
           record {
             names = added.names e ∙ ap (λ (z : List (List ℕ)). z ++ name_at ms label ∷ []) s.numbers.names ∙ sym more;
-            numbers = λ l a b. ap (λ (z : List (Option ℕ)). get_or z (l - 1) None) (added.numbers e) ∙ number_next e l a b ∙ ap (λ (z : List (List ℕ)). held (number_of (name_at ms l) z)) (sym more);
+            numbers = λ l a b. ap (λ (z : List (Option ℕ)). get_or z l None) (added.numbers e) ∙ number_next e l a b ∙ ap (λ (z : List (List ℕ)). held (number_of (name_at ms l) z)) (sym more);
           }
 
       pub sofar_more : Sofar ms ns k o
-      sofar_more = record { named = all_next; numbers = ⊎_elim with_next with_old (none_or_not (get_or n.numbers (label - 1) None)) }
+      sofar_more = record { named = all_next; numbers = ⊎_elim with_next with_old (none_or_not (get_or n.numbers label None)) }
 
 -- all nodes
 pub sofar_all : (ms : List (List ℕ)) (ns : List Node) (m : ℕ) (n : Numbering) → count ns ≤ m → Sofar ms ns m n → AllNamed ms ns × Numbers ms ns n

@@ -1,5 +1,5 @@
 -- The image that a numbering gives is that of the plan.
-use Rattle.std.proofs.Common.{◌≡◌, ℕ, suc, ◌+◌, ◌-◌, ◌*◌, ◌<◌, ◌≤◌, List, [], ◌∷◌, ◌++◌, length, get_or, drop, None, Ok, Err, Option, sym, refl, ap, ◌∙◌, ap₂, arith}
+use Rattle.std.proofs.Common.{◌≡◌, ℕ, suc, ◌+◌, ◌*◌, ◌<◌, ◌≤◌, List, [], ◌∷◌, ◌++◌, length, get_or, drop, None, Ok, Err, Option, sym, refl, ap, ◌∙◌, ap₂, arith}
 use lib.ListN.{length-map}
 use Rattle.std.specs.List.{flat_map, sum_by, AllByRecursion}
 use Rattle.std.specs.Option.{unwrap_or}
@@ -23,7 +23,7 @@ use Rattle.writer.proofs.NodeFields.{length_fields}
 pub body_long : (n : Numbering) (ns : List Node) → length (numbered_body n ns) ≡ 4 + (length (flat_map name_field (ordered n)) + 3 * length ns)
 body_long n ns = omega (arith, length-append (flat_map name_field (ordered n)) (two (length ns) ++ flat_map (numbered_field n.numbers) ns), length_fields n.numbers ns)
 
-fields_same : (ms : List (List ℕ)) (numbers : List (Option ℕ)) (names : List (List ℕ)) (i : ℕ) (ns : List Node) → AllByRecursion (Borne ms) ns → ((l : ℕ) → 1 ≤ l → l ≤ length ms → get_or numbers (l - 1) None ≡ held (number_of (name_at ms l) names))
+fields_same : (ms : List (List ℕ)) (numbers : List (Option ℕ)) (names : List (List ℕ)) (i : ℕ) (ns : List Node) → AllByRecursion (Borne ms) ns → ((l : ℕ) → 1 ≤ l → l ≤ length ms → get_or numbers l None ≡ held (number_of (name_at ms l) names))
     → flat_map (numbered_field numbers) ns ≡ flat_map node_field (nodes_by names i (plan_of ms ns))
 fields_same ms numbers names i [] a h = refl
 fields_same ms numbers names i (n ∷ ns) a h =

@@ -25,7 +25,7 @@ fn number_names<'t, T: Tree>(
     numbering: &mut Numbering<'t>,
 ) -> Result<(), WriteFault>
     requires names { ordered numbering.old ≡ [] }
-    requires numbers { numbering.old.numbers ≡ replicate 512 None }
+    requires numbers { numbering.old.numbers ≡ replicate 513 None }
     ensures { NumberedAll (listed names.now) (T.Tree.nodes tree.now) result numbering.new }
 {
     for node in 1..=tree.count() {
@@ -49,8 +49,7 @@ fn write_names(output: &mut Output<'_>, numbering: &Numbering<'_>)
 }
 
 fn write_nodes<T: Tree>(output: &mut Output<'_>, tree: &T, numbering: &Numbering<'_>)
-    requires named { AllByRecursion (λ n. n.label ≤ 512) (T.Tree.nodes tree.now) }
-    requires room { 3 * length_of (T.Tree.nodes tree.now) ≤ length_of (rest output.old) }
+    requires { 3 * length_of (T.Tree.nodes tree.now) ≤ length_of (rest output.old) }
     ensures { Wrote output.old (flat_map (numbered_field numbering.now.numbers) (T.Tree.nodes tree.now)) output.new }
 {
     for node in 1..=tree.count() {
@@ -61,7 +60,6 @@ fn write_nodes<T: Tree>(output: &mut Output<'_>, tree: &T, numbering: &Numbering
 
 // Writes the whole image, which has this length.
 fn write_all<T: Tree>(out: &mut [u8], length: usize, tree: &T, numbering: &Numbering<'_>)
-    requires named { AllByRecursion (λ n. n.label ≤ 512) (T.Tree.nodes tree.now) }
     requires value { length ≡ length_of (numbered_image numbering.now (T.Tree.nodes tree.now)) }
     requires room { length ≤ length_of out.old }
     ensures { out.new ≡ numbered_image numbering.now (T.Tree.nodes tree.now) ++ drop length out.old }

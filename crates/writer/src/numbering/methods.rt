@@ -14,37 +14,37 @@ impl<'t> Numbering<'t> {
     // No name has appeared.
     pub fn new() -> Numbering<'t>
         ensures names { ordered result ≡ [] }
-        ensures numbers { result.numbers ≡ replicate 512 None }
+        ensures numbers { result.numbers ≡ replicate 513 None }
     {
         Numbering {
-            numbers: [None; 512],
+            numbers: [None; 513],
             names: ArrayVec::new(),
         }
     }
 
     // Gives the name of a label the next number, unless it has one.
     pub fn add(&mut self, label: u16, name: &'t [u8])
-        requires low { 1 ≤ label }
-        requires high { label ≤ 512 }
+        requires label { label ≤ 512 }
         requires short { length name.now ≤ 64 }
-        requires room { slice_index_or self.old.numbers (label - 1) None ≡ None → length (ordered self.old) < 512 }
-        ensures { Added self.old (label - 1) name.now self.new }
+        requires room { slice_index_or self.old.numbers label None ≡ None → length (ordered self.old) < 512 }
+        ensures { Added self.old label name.now self.new }
     {
-        let at = label as usize - 1;
-        let number = self.numbers[at];
+        let number = self.numbers[label as usize];
         if number.is_none() {
             self.names.push(name);
-            self.numbers[at] = Some(self.names.len() as u16);
+            self.numbers[label as usize] = Some(self.names.len() as u16);
         }
     }
 
     // The number of a label's name, or 0 where that has not appeared.
     pub fn number(&self, label: u16) -> u16
-        requires low { 1 ≤ label }
-        requires high { label ≤ 512 }
         ensures { result ≡ number_at self.now.numbers label }
     {
-        self.numbers[label as usize - 1].unwrap_or(0)
+        self.numbers
+            .get(label as usize)
+            .copied()
+            .flatten()
+            .unwrap_or(0)
     }
 
     // The names in their order.

@@ -25,8 +25,7 @@ add-requires g c =
     let list = list_to ms c.args.names.now.good in
     let is = named_is ms c.label-label.result c.in-Some.name.now c.in-Some.ensures in
     record {
-      low = is.0;
-      high = omega (arith, is.1, list.most);
+      label = omega (arith, is.1, list.most);
       short = omega (arith, ap length is.2, name_short ms list c.label-label.result (omega (arith, is.1)));
       room = room ms (g.T.Tree.nodes c.args.tree.now) c.loop-node.node (omega arith) (omega arith) c.loop-node.numbering c.loop-node.invariant list c.label-label.result c.label-label.ensures is.0 is.1;
     }
@@ -38,7 +37,7 @@ more g c =
     let label = c.label-label.result in
     let is = named_is ms label c.in-Some.name.now c.in-Some.ensures in
     sofar_more ms (g.T.Tree.nodes c.args.tree.now) c.loop-node.node (omega arith) (omega arith) c.loop-node.numbering c.loop-node.invariant (list_to ms c.args.names.now.good) label c.label-label.ensures is.0 is.1 c.add.new.self
-    (subst (λ m. Added c.loop-node.numbering (label - 1) m c.add.new.self) is.2 c.add.ensures)
+    (subst (λ m. Added c.loop-node.numbering label m c.add.new.self) is.2 c.add.ensures)
 
 pub loop-node-preserved : goal.loop-node-preserved
 loop-node-preserved g c =

@@ -1,9 +1,6 @@
-use Rattle.std.proofs.Common.{◌≡◌, ℕ, ◌+◌, ◌*◌, ◌≤◌, length, sym, ap, ◌∙◌, arith, rules}
+use Rattle.std.proofs.Common.{◌≡◌, ℕ, ◌+◌, ◌*◌, length, sym, ap, ◌∙◌, rules}
 use Rattle.std.specs.List.{sum_by}
-use Rattle.std.proofs.ByRecursion.{All-weaker}
 use Rattle.names.specs.NameLists.{listed}
-use Rattle.names.proofs.Names.{list_to}
-use Rattle.tree.specs.Nodes.{Node}
 use Rattle.writer.specs.Writings.{numbered_image}
 use Rattle.writer.proofs.Lengths.{lengths_most}
 use Rattle.writer.proofs.Images.{image_long, too_short, all_written}
@@ -31,14 +28,7 @@ returns-then-out-length g c =
     too_short (listed c.args.names.now) (g.T.Tree.nodes c.args.tree.now) c.number_names.new.numbering (g.T.Tree.keeps c.args.tree.now) done.0 done.1 c.image_length-length.result (value g (goal.at.returns-then-out-length g c).After-image_length-length) c.args.out.now c.if-out-length.true
 
 pub write_all-requires : goal.write_all-requires
-write_all-requires g c =
-    let ms = listed c.args.names.now in
-    let list = list_to ms c.args.names.now.good in
-    record {
-      named = All-weaker (λ (n : Node). n.label ≤ length ms) (λ (n : Node). n.label ≤ 512) (λ n l. omega (arith, list.most)) (g.T.Tree.nodes c.args.tree.now) c.in_ok-number_names.ensures.0;
-      value = value g (goal.at.write_all-requires g c).After-image_length-length;
-      room = c.if-out-length.false;
-    }
+write_all-requires g c = record { value = value g (goal.at.write_all-requires g c).After-image_length-length; room = c.if-out-length.false }
 
 pub returns : goal.returns
 returns g c =

@@ -18,8 +18,8 @@ overflow_cast-body g c =
     let value = c.requires.value ∙ image_long n (g.T.Tree.nodes c.args.tree.now) in
     search rules
 
-pub write_nodes-requires-clause-room : goal.write_nodes-requires-clause-room
-write_nodes-requires-clause-room g c =
+pub write_nodes-requires : goal.write_nodes-requires
+write_nodes-requires g c =
     let long = image_long c.args.numbering.now (g.T.Tree.nodes c.args.tree.now) in
     let names = length_fields_of c.args.numbering.now.names.items in
     let b4 : length c.to_be_bytes.result ≡ 4 = ap length c.to_be_bytes.ensures in
