@@ -139,8 +139,14 @@ module _ (ms : List (List ℕ)) (ns : List Node) (k : ℕ) (some : 1 ≤ k) (mos
             numbers = λ l a b. ap (λ (z : List (Option ℕ)). get_or z l None) (added.numbers e) ∙ number_next e l a b ∙ ap (λ (z : List (List ℕ)). held (number_of (name_at ms l) z)) (sym more);
           }
 
-      pub sofar_more : Sofar ms ns k o
+      sofar_more : Sofar ms ns k o
       sofar_more = record { named = all_next; numbers = ⊎_elim with_next with_old (none_or_not (get_or n.numbers label None)) }
+
+  -- the name that was found for the label of the node is numbered too
+  pub sofar_found : IsNameList ms → (label : ℕ) (m : List ℕ) (o : Numbering) → label ≡ label_at ns k → Some m ≡ named ms label → Added n label m o → Sofar ms ns k o
+  sofar_found list label m o is found added =
+      let name = named_is ms label m found in
+      sofar_more list label is name.0 name.1 o (subst (λ (z : List ℕ). Added n label z o) name.2 added)
 
 -- all nodes
 pub sofar_all : (ms : List (List ℕ)) (ns : List Node) (m : ℕ) (n : Numbering) → count ns ≤ m → Sofar ms ns m n → AllNamed ms ns × Numbers ms ns n

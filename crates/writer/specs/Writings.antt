@@ -31,11 +31,11 @@ Writes ms ns was (Err (Nameless k)) is = FirstNameless ms ns k × (is ≡ was)
 abbrev pub numbered_field : List (Option ℕ) → Node → List ℕ
 numbered_field numbers n = two (number_at numbers n.label) ++ n.depth ∷ []
 
--- numbering the names of all nodes answers r and leaves the numbering n
-abbrev pub NumberedAll : List (List ℕ) → List Node → Result (Unit {0}) WriteFault → Numbering → Type 0
-NumberedAll ms ns (Ok u) n = AllNamed ms ns × Numbers ms ns n
-NumberedAll ms ns (Err (Short k)) n = ⊥
-NumberedAll ms ns (Err (Nameless k)) n = FirstNameless ms ns k
+-- numbering the names of all nodes answers r
+abbrev pub NumberedAll : List (List ℕ) → List Node → Result Numbering WriteFault → Type 0
+NumberedAll ms ns (Ok n) = AllNamed ms ns × Numbers ms ns n
+NumberedAll ms ns (Err (Short k)) = ⊥
+NumberedAll ms ns (Err (Nameless k)) = FirstNameless ms ns k
 
 -- what follows the length field, and the whole image, of the nodes ns with the numbering n
 abbrev pub numbered_body : Numbering → List Node → List ℕ

@@ -22,12 +22,10 @@ const HEADER: usize = 5;
 fn number_names<'t, T: Tree>(
     tree: &T,
     names: &NameList<'_, 't>,
-    numbering: &mut Numbering<'t>,
-) -> Result<(), WriteFault>
-    requires names { ordered numbering.old ≡ [] }
-    requires numbers { numbering.old.numbers ≡ replicate 513 None }
-    ensures { NumberedAll (listed names.now) (T.Tree.nodes tree.now) result numbering.new }
+) -> Result<Numbering<'t>, WriteFault>
+    ensures { NumberedAll (listed names.now) (T.Tree.nodes tree.now) result }
 {
+    let mut numbering = Numbering::new();
     for node in 1..=tree.count() {
         let label = tree.label(node);
         let Some(name) = names.name(label) else {
@@ -35,7 +33,7 @@ fn number_names<'t, T: Tree>(
         };
         numbering.add(label, name);
     }
-    Ok(())
+    Ok(numbering)
 }
 
 fn write_names(output: &mut Output<'_>, numbering: &Numbering<'_>)
@@ -83,8 +81,7 @@ pub fn write<T: Tree>(
 ) -> Result<usize, WriteFault>
     ensures { Writes (listed names.now) (T.Tree.nodes tree.now) out.old result out.new }
 {
-    let mut numbering = Numbering::new();
-    number_names(tree, names, &mut numbering)?;
+    let numbering = number_names(tree, names)?;
     let length = numbering.image_length(tree.count());
     if out.len() < length {
         return Err(WriteFault::Short(length as u32));

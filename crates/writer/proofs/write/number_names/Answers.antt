@@ -1,15 +1,17 @@
-use Rattle.std.proofs.Common.{◌≡◌, ℕ, ◌+◌, ◌-◌, length, ap, subst, arith}
+use Rattle.std.proofs.Common.{◌≡◌, ℕ, ◌+◌, ◌-◌, ◌≤◌, List, length, Some, sym, ap, subst, arith}
 use Rattle.names.specs.NameLists.{listed}
 use Rattle.names.proofs.Names.{list_to}
-use Rattle.writer.specs.Numberings.{Added}
-use Rattle.writer.proofs.Appearances.{Sofar, sofar_none, name_short, named_is, named_not, nameless, room, sofar_more, sofar_all}
+use Rattle.writer.specs.declared.numbering.Numbering.{Numbering}
+use Rattle.writer.specs.Numberings.{Numbers}
+use Rattle.writer.specs.Writings.{AllNamed}
+use Rattle.writer.proofs.Appearances.{Sofar, sofar_none, named_is, name_short, named_not, nameless, room, sofar_found, sofar_all}
 use Rattle.writer.proofs.write.number_names.Goals as goal
-use Rattle.writer.proofs.write.number_names.Goals.{After-add}
+use Rattle.writer.proofs.write.number_names.Goals.{else-loop-node-test, then-loop-node-test+in-Some+else-node-node-end}
 
 pub loop-node-init : goal.loop-node-init
 loop-node-init g c =
     let ms = listed c.args.names.now in
-    sofar_none ms (g.T.Tree.nodes c.args.tree.now) c.args.numbering.now (list_to ms c.args.names.now.good).most c.requires.names c.requires.numbers
+    sofar_none ms (g.T.Tree.nodes c.args.tree.now) c.new-numbering.result (list_to ms c.args.names.now.good).most c.new-numbering.ensures.names c.new-numbering.ensures.numbers
 
 pub returns-in_default : goal.returns-in_default
 returns-in_default g c =
@@ -30,19 +32,21 @@ add-requires g c =
       room = room ms (g.T.Tree.nodes c.args.tree.now) c.loop-node.node (omega arith) (omega arith) c.loop-node.numbering c.loop-node.invariant list c.label-label.result c.label-label.ensures is.0 is.1;
     }
 
--- the name of the node is numbered too
-more : (g : _) (c : After-add g) → Sofar (listed c.args.names.now) (g.T.Tree.nodes c.args.tree.now) c.loop-node.node c.add.new.self
-more g c =
-    let ms = listed c.args.names.now in
-    let label = c.label-label.result in
-    let is = named_is ms label c.in-Some.name.now c.in-Some.ensures in
-    sofar_more ms (g.T.Tree.nodes c.args.tree.now) c.loop-node.node (omega arith) (omega arith) c.loop-node.numbering c.loop-node.invariant (list_to ms c.args.names.now.good) label c.label-label.ensures is.0 is.1 c.add.new.self
-    (subst (λ m. Added c.loop-node.numbering label m c.add.new.self) is.2 c.add.ensures)
-
 pub loop-node-preserved : goal.loop-node-preserved
 loop-node-preserved g c =
+    let ms = listed c.args.names.now in
+    let ns = g.T.Tree.nodes c.args.tree.now in
     let e : c.loop-node.node ≡ c.loop-node.node + 1 - 1 = omega arith in
-    subst (λ (k : ℕ). Sofar (listed c.args.names.now) (g.T.Tree.nodes c.args.tree.now) k c.add.new.self) e (more g (goal.at.loop-node-preserved g c).After-add)
+    subst (λ (k : ℕ). Sofar ms ns k c.add.new.self) e
+        (sofar_found ms ns c.loop-node.node (omega arith) (omega arith) c.loop-node.numbering c.loop-node.invariant (list_to ms c.args.names.now.good) c.label-label.result c.in-Some.name.now c.add.new.self c.label-label.ensures c.in-Some.ensures c.add.ensures)
 
-pub returns-in-Some : goal.returns-in-Some
-returns-in-Some g c = sofar_all (listed c.args.names.now) (g.T.Tree.nodes c.args.tree.now) c.loop-node.node c.add.new.self (omega arith) (more g (goal.at.returns-in-Some g c).After-add)
+pub returns : goal.returns
+returns g c =
+    let ms = listed c.args.names.now in
+    let ns = g.T.Tree.nodes c.args.tree.now in
+    elim c.loop-node-test.branch [
+      else-loop-node-test w ↦ absurd (omega (arith, (g.T.Tree.keeps c.args.tree.now).some, w.loop-node-test.false))
+      | then-loop-node-test+in-Some+else-node-node-end w ↦ subst (λ (o : Numbering). AllNamed ms ns × Numbers ms ns o) (sym w.numbering-is)
+          (sofar_all ms ns c.loop-node.node w.add.new.self (omega arith)
+              (sofar_found ms ns c.loop-node.node (omega arith) (omega arith) c.loop-node.numbering c.loop-node.invariant (list_to ms c.args.names.now.good) w.label-label.result w.in-Some.name.now w.add.new.self w.label-label.ensures w.in-Some.ensures w.add.ensures))
+    ]
