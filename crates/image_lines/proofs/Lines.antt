@@ -1,33 +1,21 @@
 -- Lines, from what the calls below answer.
-use Rattle.std.proofs.Common.{◌≡◌, ℕ, zero, suc, ◌-◌, ◌<◌, ◌≤◌, List, [], ◌++◌, length, take, drop, None, Ok, Err, Result, sym, refl, ap, ◌∙◌, ⊎_elim, arith}
-use Rattle.std.proofs.lemmas.List.{get_or_past, take_at}
+use Rattle.std.proofs.Common.{◌≡◌, ℕ, ◌-◌, ◌<◌, ◌≤◌, List, ◌++◌, length, take, drop, Ok, Err, Result, sym, ap, ◌∙◌, ⊎_elim, arith}
+use Rattle.std.proofs.lemmas.List.{take_at}
 use Rattle.std.proofs.lemmas.Bool.{cases_lt}
 use Rattle.answers.specs.Lines.{refused_line}
 use Rattle.names.specs.Lists.{IsNameList}
-use Rattle.names.specs.NameLists.{named}
-use Rattle.names.proofs.Found.{none_some}
-use Rattle.names.proofs.Names.{named_some}
 use Rattle.tree.specs.Nodes.{Node, Laws, node_limit}
 use Rattle.stored.specs.declared.fault.ImageFault.{ImageFault}
 use Rattle.stored.specs.declared.fault.WriteFault.{WriteFault}
 use Rattle.stored.specs.declared.fault.WriteFault.TheVariants.{Short, Nameless}
 use Rattle.stored.specs.Faults.{write_number, write_place}
-use Rattle.stored.specs.Plans.{Stored, name_at, plan_of}
+use Rattle.stored.specs.Plans.{Stored, plan_of}
 use Rattle.stored.specs.Images.{image}
 use Rattle.stored.proofs.Openings.{images_open, body_short}
 use Rattle.stored.proofs.Storable.{trees_are_plans}
 use Rattle.writer.specs.Writings.{FirstNameless, Writes}
 use Rattle.writer.proofs.SamePlans.{never_nameless}
 use Rattle.image_lines.specs.Texts.{hex_line, opened_lines, seen_text, Returns}
-
--- a label without a name
-pub no_name : (ms : List (List ℕ)) (l : ℕ) → None ≡ named ms l → [] ≡ name_at ms l
-no_name ms zero e = refl
-no_name ms (suc k) e =
-    ⊎_elim
-    (λ (h : k < length ms). absurd (none_some _ (e ∙ sym (named_some ms (suc k) (omega arith) (omega arith)))))
-    (λ (h : length ms ≤ k). sym (get_or_past ms k [] h))
-    (cases_lt k (length ms))
 
 -- at most one node is the first without a name
 first_same : (ms : List (List ℕ)) (ns : List Node) (j k : ℕ) → FirstNameless ms ns j → FirstNameless ms ns k → j ≡ k

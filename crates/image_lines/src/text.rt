@@ -14,11 +14,7 @@ use writer::write::write;
 // No image is longer.
 const MOST_BYTES: usize = 45577;
 
-static NOTHING: [u8; 0] = [];
-
-static DIGITS: [u8; 16] = [
-    b'0', b'1', b'2', b'3', b'4', b'5', b'6', b'7', b'8', b'9', b'A', b'B', b'C', b'D', b'E', b'F',
-];
+static DIGITS: &[u8; 16] = b"0123456789ABCDEF";
 
 fn hex_digit(n: u8) -> u8
     requires { n < 16 }
@@ -43,7 +39,7 @@ pub fn hex_bytes(heap: Global, bytes: &[u8]) -> Result<Vec<u8>, AllocError>
 fn line_of(heap: Global, label: u16, depth: u16, name: &[u8]) -> Result<Vec<u8>, AllocError>
     ensures { IfOk result (λ line. line.items ≡ label_line label depth name.now) }
 {
-    let mut line = Vec::from_slice(heap, format!(in heap; "{label} {depth} ")?.as_bytes())?;
+    let mut line = format!(in heap; "{label} {depth} ")?.into_bytes();
     line.extend_from_slice(name)?;
     line.push(b'\n')?;
     Ok(line)
@@ -52,10 +48,7 @@ fn line_of(heap: Global, label: u16, depth: u16, name: &[u8]) -> Result<Vec<u8>,
 fn name_of<'t>(names: &NameList<'_, 't>, label: u16) -> &'t [u8]
     ensures { result.now ≡ name_at (listed names.now) label }
 {
-    match names.name(label) {
-        Some(name) => name,
-        None => &NOTHING,
-    }
+    names.name(label).unwrap_or_default()
 }
 
 // A line for each node of a tree whose labels are numbers of these names.
@@ -66,11 +59,8 @@ pub fn nodes<T: Tree>(
 ) -> Result<Vec<u8>, AllocError>
     ensures { IfOk result (λ text. text.items ≡ node_lines (listed names.now) (T.Tree.nodes tree.now)) }
 {
-    let count = tree.count();
     let mut text = Vec::new(heap);
-    let mut node: u16 = 0;
-    while node < count {
-        node += 1;
+    for node in 1..=tree.count() {
         let label = tree.label(node);
         let line = line_of(heap, label, tree.depth(node), name_of(names, label))?;
         text.extend_from_slice(line.as_slice())?;
@@ -107,7 +97,7 @@ fn written<T: Tree>(
 {
     match write(tree, names, out) {
         Ok(length) => seen(heap, &out[0..length]),
-        Err(fault) => Vec::from_slice(heap, refused(heap, &fault)?.as_bytes()),
+        Err(fault) => Ok(refused(heap, &fault)?.into_bytes()),
     }
 }
 

@@ -1,4 +1,4 @@
-use Rattle.std.proofs.Common.{vec_items, ◌∙◌}
+use Rattle.std.proofs.Common.{vec_items, ap, ◌∙◌}
 use Rattle.std.proofs.lemmas.Result.{IfOk-weaker}
 use Rattle.names.specs.NameLists.{listed}
 use Rattle.names.proofs.Names.{list_to}
@@ -17,6 +17,4 @@ pub returns-in_ok-refused-in-Err : goal.returns-in_ok-refused-in-Err
 returns-in_ok-refused-in-Err g c =
     let ms = listed c.args.names.now in
     let ns = g.T.Tree.nodes c.args.tree.now in
-    IfOk-weaker c.from_slice.result _ _
-    (λ text e. refused_seen ms ns c.args.out.now c.in-Err.fault c.write.new.out (vec_items text) (g.T.Tree.keeps c.args.tree.now) (list_to ms c.args.names.now.good) c.requires c.in-Err.ensures (e ∙ c.as_bytes.ensures.value ∙ c.in_ok-refused-in-Err.ensures))
-    c.from_slice.ensures.items
+    refused_seen ms ns c.args.out.now c.in-Err.fault c.write.new.out (vec_items c.into_bytes.result) (g.T.Tree.keeps c.args.tree.now) (list_to ms c.args.names.now.good) c.requires c.in-Err.ensures (ap vec_items c.into_bytes.ensures.value ∙ c.in_ok-refused-in-Err.ensures)
