@@ -14,6 +14,7 @@ use writer::write::write;
 // No image is longer.
 const MOST_BYTES: usize = 45577;
 
+// A table, since `{:02X}` would put a text on the heap for each byte.
 static DIGITS: &[u8; 16] = b"0123456789ABCDEF";
 
 fn hex_digit(n: u8) -> u8

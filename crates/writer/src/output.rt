@@ -3,7 +3,7 @@ ghost use Rattle.std.specs.Prelude.{◌≤◌, length};
 
 pub mod methods;
 
-// The first `at` bytes are written.
+// The first `at` bytes are written. Std's `Cursor` would make each write one that may fail.
 #[derive(Drop)]
 pub struct Output<'a> {
     bytes: &'a mut [u8],

@@ -1,6 +1,6 @@
 // Writing the image of a tree.
-ghost use Rattle.std.specs.Prelude.{◌≡◌, ◌*◌, ◌≤◌, [], ◌++◌, length as length_of, drop, None, replicate};
-ghost use Rattle.std.specs.List.{flat_map, AllByRecursion};
+ghost use Rattle.std.specs.Prelude.{◌≡◌, ◌*◌, ◌≤◌, ◌++◌, length as length_of, drop};
+ghost use Rattle.std.specs.List.{flat_map};
 ghost use Rattle.names.specs.NameLists.{listed};
 ghost use Rattle.stored.specs.Images.{name_field};
 ghost use Rattle.writer.specs.Numberings.{ordered};

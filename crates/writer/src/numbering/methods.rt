@@ -1,7 +1,6 @@
 // Numbering names, and what their numbers are.
-ghost use Rattle.std.specs.Prelude.{◌≡◌, ◌+◌, ◌-◌, ◌*◌, ◌<◌, ◌≤◌, [], length, None, replicate, slice_index_or};
+ghost use Rattle.std.specs.Prelude.{◌≡◌, ◌+◌, ◌*◌, ◌<◌, ◌≤◌, [], length, None, replicate, slice_index_or};
 ghost use Rattle.std.specs.List.{sum_by};
-ghost use Rattle.std.specs.Option.{unwrap_or};
 ghost use Rattle.writer.specs.Numberings.{ordered, number_at, Added};
 
 use super::Numbering;

@@ -1,4 +1,4 @@
-use Rattle.std.proofs.Common.{◌≡◌, ℕ, ◌+◌, ◌-◌, ◌≤◌, List, length, Some, sym, ap, subst, arith}
+use Rattle.std.proofs.Common.{◌≡◌, ℕ, ◌+◌, ◌-◌, length, sym, ap, subst, arith}
 use Rattle.names.specs.NameLists.{listed}
 use Rattle.names.proofs.Names.{list_to}
 use Rattle.writer.specs.declared.numbering.Numbering.{Numbering}
@@ -38,15 +38,15 @@ loop-node-preserved g c =
     let ns = g.T.Tree.nodes c.args.tree.now in
     let e : c.loop-node.node ≡ c.loop-node.node + 1 - 1 = omega arith in
     subst (λ (k : ℕ). Sofar ms ns k c.add.new.self) e
-        (sofar_found ms ns c.loop-node.node (omega arith) (omega arith) c.loop-node.numbering c.loop-node.invariant (list_to ms c.args.names.now.good) c.label-label.result c.in-Some.name.now c.add.new.self c.label-label.ensures c.in-Some.ensures c.add.ensures)
+    (sofar_found ms ns c.loop-node.node (omega arith) (omega arith) c.loop-node.numbering c.loop-node.invariant (list_to ms c.args.names.now.good) c.label-label.result c.in-Some.name.now c.add.new.self c.label-label.ensures c.in-Some.ensures c.add.ensures)
 
 pub returns : goal.returns
 returns g c =
     let ms = listed c.args.names.now in
     let ns = g.T.Tree.nodes c.args.tree.now in
     elim c.loop-node-test.branch [
-      else-loop-node-test w ↦ absurd (omega (arith, (g.T.Tree.keeps c.args.tree.now).some, w.loop-node-test.false))
+      | else-loop-node-test w ↦ absurd (omega (arith, (g.T.Tree.keeps c.args.tree.now).some, w.loop-node-test.false))
       | then-loop-node-test+in-Some+else-node-node-end w ↦ subst (λ (o : Numbering). AllNamed ms ns × Numbers ms ns o) (sym w.numbering-is)
           (sofar_all ms ns c.loop-node.node w.add.new.self (omega arith)
-              (sofar_found ms ns c.loop-node.node (omega arith) (omega arith) c.loop-node.numbering c.loop-node.invariant (list_to ms c.args.names.now.good) w.label-label.result w.in-Some.name.now w.add.new.self w.label-label.ensures w.in-Some.ensures w.add.ensures))
+          (sofar_found ms ns c.loop-node.node (omega arith) (omega arith) c.loop-node.numbering c.loop-node.invariant (list_to ms c.args.names.now.good) w.label-label.result w.in-Some.name.now w.add.new.self w.label-label.ensures w.in-Some.ensures w.add.ensures))
     ]
