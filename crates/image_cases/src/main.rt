@@ -53,6 +53,15 @@ const SMALLEST: Shape = Shape {
     spoiled: None,
 };
 
+// As many nodes, each below the one before.
+fn deep(nodes: u16) -> Shape {
+    Shape {
+        nodes,
+        deep: true,
+        ..SMALLEST
+    }
+}
+
 fn hex_digit(b: u8) -> u8 {
     match b {
         b'0'..=b'9' => b - b'0',
@@ -179,76 +188,36 @@ fn print_changes_at(rt: &HostRuntime, at: usize) -> io::Result<()> {
     Ok(())
 }
 
+fn changed<F: FnOnce(&mut Shape)>(mut shape: Shape, change: F) -> Shape
+    requires { F.IsAlwaysCallable change }
+{
+    change(&mut shape);
+    shape
+}
+
 fn print_limits(rt: &HostRuntime) -> io::Result<()> {
     let shapes = [
         LARGEST,
         SMALLEST,
-        Shape {
-            names: 0,
-            ..SMALLEST
-        },
-        Shape {
-            names: 513,
-            ..LARGEST
-        },
-        Shape {
-            length: 65,
-            ..LARGEST
-        },
-        Shape {
-            nodes: 0,
-            ..SMALLEST
-        },
-        Shape {
-            nodes: 4097,
-            ..LARGEST
-        },
-        Shape {
-            nodes: 511,
-            ..LARGEST
-        },
-        Shape {
-            nodes: 512,
-            ..LARGEST
-        },
-        Shape {
-            nodes: 64,
-            deep: true,
-            ..SMALLEST
-        },
-        Shape {
-            nodes: 65,
-            deep: true,
-            ..SMALLEST
-        },
-        Shape {
-            longer: true,
-            ..LARGEST
-        },
-        Shape {
-            names: 2,
-            ..SMALLEST
-        },
+        changed(SMALLEST, |shape| shape.names = 0),
+        changed(LARGEST, |shape| shape.names = 513),
+        changed(LARGEST, |shape| shape.length = 65),
+        changed(SMALLEST, |shape| shape.nodes = 0),
+        changed(LARGEST, |shape| shape.nodes = 4097),
+        changed(LARGEST, |shape| shape.nodes = 511),
+        changed(LARGEST, |shape| shape.nodes = 512),
+        deep(64),
+        deep(65),
+        changed(LARGEST, |shape| shape.longer = true),
+        changed(SMALLEST, |shape| shape.names = 2),
         // the last letter of the last name, so that the name is repeated
-        Shape {
-            spoiled: Some((33286, b'Q')),
-            ..LARGEST
-        },
+        changed(LARGEST, |shape| shape.spoiled = Some((33286, b'Q'))),
         // the depth of the last node
-        Shape {
-            spoiled: Some((45576, 65)),
-            ..LARGEST
-        },
+        changed(LARGEST, |shape| shape.spoiled = Some((45576, 65))),
         // the depth of the first node
-        Shape {
-            spoiled: Some((33291, 2)),
-            ..LARGEST
-        },
+        changed(LARGEST, |shape| shape.spoiled = Some((33291, 2))),
         // the length
-        Shape {
-            spoiled: Some((4, 0)),
-            ..LARGEST
-        },
+        changed(LARGEST, |shape| shape.spoiled = Some((4, 0))),
     ];
     for shape in shapes {
         print_counts(rt, image_of(rt.alloc(), shape)?.as_slice())?;
@@ -265,11 +234,7 @@ fn print_writing<T: Tree>(
     let mut out = vec![in rt.alloc(); 0xAA; room]?;
     match write(tree, names, out.as_mut_slice()) {
         Ok(length) => print!(rt; "{length} bytes written:")?,
-        Err(fault) => {
-            let number = fault.number();
-            let place = fault.place();
-            print!(rt; "refused {number} at {place}:")?;
-        }
+        Err(fault) => print!(rt; "{}:", fault.told())?,
     }
     for byte in out.as_slice() {
         print!(rt; " {byte}")?;

@@ -3,18 +3,13 @@
 
 ghost use Rattle.std.specs.Prelude.{◌<◌};
 
+use plan::counts::Counts;
 use plan::read::read;
 use std::alloc::{AllocError, Global};
 use std::io;
 use std::io::{BufRead, BufReader};
 use tree::refusal::Refusal;
 use tree::slot::Slot;
-
-const FREE: Slot = Slot {
-    label: 0,
-    depth: 0,
-    place: 0,
-};
 
 fn hex_digit(b: u8) -> u8
     ensures { result < 16 }
@@ -68,19 +63,11 @@ fn print_names(rt: &HostRuntime, names: &[&[u8]]) -> io::Result<()> {
 
 // With 8 node slots and 4 name slots.
 fn print_reading(rt: &HostRuntime, text: &[u8]) -> io::Result<()> {
-    let mut nodes = [FREE; 8];
+    let mut nodes = [Slot::default(); 8];
     let mut names = [&text[0..0]; 4];
     match read(text, &mut nodes, &mut names) {
-        Ok(counts) => {
-            let count = counts.nodes;
-            let known = counts.names;
-            print!(rt; "read {count} nodes {known} names:")?;
-        }
-        Err(fault) => {
-            let number = fault.number();
-            let place = fault.place();
-            print!(rt; "refused {number} at {place}:")?;
-        }
+        Ok(Counts { nodes, names }) => print!(rt; "read {nodes} nodes {names} names:")?,
+        Err(fault) => print!(rt; "{}:", fault.told())?,
     }
     print_nodes(rt, &nodes)?;
     print_names(rt, &names)?;

@@ -12,17 +12,11 @@ const MOST_NODES: usize = 4096;
 
 const MOST_NAMES: usize = 512;
 
-const EMPTY: Slot = Slot {
-    label: 0,
-    depth: 0,
-    place: 0,
-};
-
 fn main(rt: HostRuntime) -> io::Result<()> {
     let heap = rt.alloc();
     let file = read_or_empty(&rt, "plan.xml")?;
     let text = file.as_slice();
-    let mut nodes = vec![in heap; EMPTY; MOST_NODES]?;
+    let mut nodes = vec![in heap; Slot::default(); MOST_NODES]?;
     let mut names = vec![in heap; text; MOST_NAMES]?;
     let mut plan = Plan::new();
     match plan.open(text, nodes.as_mut_slice(), names.as_mut_slice()) {

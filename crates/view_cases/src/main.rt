@@ -67,11 +67,7 @@ fn ask<T: Tree>(rt: &HostRuntime, tree: &T, question: &str) -> io::Result<()> {
 fn tell(rt: &HostRuntime, call: &str, res: Result<(), ViewFault>) -> io::Result<()> {
     match res {
         Ok(()) => println!(rt; "{call}: set"),
-        Err(fault) => {
-            let number = fault.number();
-            let place = fault.place();
-            println!(rt; "{call}: refused {number} at {place}")
-        }
+        Err(fault) => println!(rt; "{call}: {}", fault.told()),
     }
 }
 

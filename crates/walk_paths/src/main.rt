@@ -12,12 +12,6 @@ const MOST_NODES: usize = 4096;
 
 const MOST_NAMES: usize = 512;
 
-const EMPTY: Slot = Slot {
-    label: 0,
-    depth: 0,
-    place: 0,
-};
-
 // Each answer is out before the next question is waited for.
 fn answer_all(rt: &HostRuntime, plan: &Plan<'_, '_, '_>) -> io::Result<()> {
     for question in BufReader::new(rt.alloc(), rt.stdin())?.split(rt.alloc(), b'\n') {
@@ -30,7 +24,7 @@ fn answer_all(rt: &HostRuntime, plan: &Plan<'_, '_, '_>) -> io::Result<()> {
 fn main(rt: HostRuntime) -> io::Result<()> {
     let file = read_or_empty(&rt, "plan.xml")?;
     let text = file.as_slice();
-    let mut nodes = vec![in rt.alloc(); EMPTY; MOST_NODES]?;
+    let mut nodes = vec![in rt.alloc(); Slot::default(); MOST_NODES]?;
     let mut names = vec![in rt.alloc(); text; MOST_NAMES]?;
     let mut plan = Plan::new();
     match plan.open(text, nodes.as_mut_slice(), names.as_mut_slice()) {

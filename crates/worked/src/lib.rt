@@ -11,7 +11,6 @@ pub fn table_is_worked()
 #[cfg(test)]
 mod tests {
     use answers::opened::Plan;
-    use plan::counts::Counts;
     use plan::read::read;
     use std::alloc::{AllocError, Global};
     use std::test::Fail;
@@ -24,20 +23,17 @@ mod tests {
     static PLAN: &[u8] =
         b"<PLAN><MON><LESSON/><DRAFT><LESSON/></DRAFT></MON><TUE><LESSON/></TUE></PLAN>";
 
-    const EMPTY: Slot = Slot {
-        label: 0,
-        depth: 0,
-        place: 0,
-    };
-
     // The counts of nodes and names, or the number and the place of a refusal.
-    fn outcome(text: &[u8]) -> (u32, u32, bool) {
-        let mut nodes = [EMPTY; 80];
-        let mut names = [&text[0..0]; 4];
-        match read(text, &mut nodes, &mut names) {
-            Ok(Counts { nodes, names }) => (nodes as u32, names as u32, true),
-            Err(fault) => (fault.number() as u32, fault.place(), false),
-        }
+    type Outcome = Result<(u16, u16), (u8, u32)>;
+
+    fn outcome_in<'a>(text: &'a [u8], nodes: &mut [Slot], names: &mut [&'a [u8]]) -> Outcome {
+        read(text, nodes, names)
+            .map(|counts| (counts.nodes, counts.names))
+            .map_err(|fault| (fault.number(), fault.place()))
+    }
+
+    fn outcome(text: &[u8]) -> Outcome {
+        outcome_in(text, &mut [Slot::default(); 80], &mut [&text[0..0]; 4])
     }
 
     // Bytes, as often as that.
@@ -83,41 +79,38 @@ mod tests {
     }
 
     // The same as `outcome`, with more slots than are ever used.
-    fn outcome_at_large(heap: Global, text: &[u8]) -> Result<(u32, u32, bool), AllocError> {
-        let mut nodes = vec![in heap; EMPTY; 5000]?;
+    fn outcome_at_large(heap: Global, text: &[u8]) -> Result<Outcome, AllocError> {
+        let mut nodes = vec![in heap; Slot::default(); 5000]?;
         let mut names = vec![in heap; text; 600]?;
-        match read(text, nodes.as_mut_slice(), names.as_mut_slice()) {
-            Ok(Counts { nodes, names }) => Ok((nodes as u32, names as u32, true)),
-            Err(fault) => Ok((fault.number() as u32, fault.place(), false)),
-        }
+        Ok(outcome_in(text, nodes.as_mut_slice(), names.as_mut_slice()))
     }
 
     #[test]
     fn plans_are_read_or_refused(rt: HostRuntime) {
-        assert_eq!(rt; outcome(b"<A/>"), (1, 1, true));
-        assert_eq!(rt; outcome(b" \t\r\n<A ></A >\n"), (1, 1, true));
-        assert_eq!(rt; outcome(b"<A b=\"x>y'z\"  c = '\"'/>"), (1, 1, true));
-        assert_eq!(rt; outcome(b"<A></B>"), (3, 3, false));
-        assert_eq!(rt; outcome(b"<A/><B/>"), (4, 4, false));
-        assert_eq!(rt; outcome(b"<A>"), (5, 3, false));
-        assert_eq!(rt; outcome(b"<?xml?>"), (2, 0, false));
-        assert_eq!(rt; outcome(b""), (5, 0, false));
+        assert_eq!(rt; outcome(b"<A/>"), Ok((1, 1)));
+        assert_eq!(rt; outcome(b" \t\r\n<A ></A >\n"), Ok((1, 1)));
+        assert_eq!(rt; outcome(b"<A b=\"x>y'z\"  c = '\"'/>"), Ok((1, 1)));
+        assert_eq!(rt; outcome(b"<A></B>"), Err((3, 3)));
+        assert_eq!(rt; outcome(b"<A/><B/>"), Err((4, 4)));
+        assert_eq!(rt; outcome(b"<A>"), Err((5, 3)));
+        assert_eq!(rt; outcome(b"<?xml?>"), Err((2, 0)));
+        assert_eq!(rt; outcome(b""), Err((5, 0)));
     }
 
     #[test]
     fn plans_at_their_limits(rt: HostRuntime) -> Result<(), Fail> {
         let heap = rt.alloc();
-        assert_eq!(rt; outcome(with_name(heap, 64)?.as_slice()), (1, 1, true));
-        assert_eq!(rt; outcome(with_name(heap, 65)?.as_slice()), (6, 0, false));
-        assert_eq!(rt; outcome(nested(heap, 64)?.as_slice()), (64, 1, true));
-        assert_eq!(rt; outcome(nested(heap, 65)?.as_slice()), (7, 192, false));
+        assert_eq!(rt; outcome(with_name(heap, 64)?.as_slice()), Ok((1, 1)));
+        assert_eq!(rt; outcome(with_name(heap, 65)?.as_slice()), Err((6, 0)));
+        assert_eq!(rt; outcome(nested(heap, 64)?.as_slice()), Ok((64, 1)));
+        assert_eq!(rt; outcome(nested(heap, 65)?.as_slice()), Err((7, 192)));
         assert_eq!(rt;
             outcome(repeated(heap, b" ", 65536)?.as_slice()),
-            (5, 65536, false)
+            Err((5, 65536))
         );
         assert_eq!(rt;
             outcome(repeated(heap, b" ", 65537)?.as_slice()),
-            (1, 0, false)
+            Err((1, 0))
         );
         Ok(())
     }
@@ -126,13 +119,13 @@ mod tests {
     fn plans_that_are_full(rt: HostRuntime) -> Result<(), Fail> {
         let heap = rt.alloc();
         let most = outcome_at_large(heap, with_nodes(heap, 4095)?.as_slice())?;
-        assert_eq!(rt; most, (4096, 2, true));
+        assert_eq!(rt; most, Ok((4096, 2)));
         let more = outcome_at_large(heap, with_nodes(heap, 4096)?.as_slice())?;
-        assert_eq!(rt; more, (8, 16383, false));
+        assert_eq!(rt; more, Err((8, 16383)));
         let most = outcome_at_large(heap, with_names(heap, 511)?.as_slice())?;
-        assert_eq!(rt; most, (512, 512, true));
+        assert_eq!(rt; most, Ok((512, 512)));
         let more = outcome_at_large(heap, with_names(heap, 512)?.as_slice())?;
-        assert_eq!(rt; more, (9, 3470, false));
+        assert_eq!(rt; more, Err((9, 3470)));
         Ok(())
     }
 
@@ -161,7 +154,7 @@ mod tests {
     fn answers(heap: Global, question: &[u8], line: &[u8]) -> Result<bool, AllocError> {
         let file = Vec::from_slice(heap, PLAN)?;
         let text = file.as_slice();
-        let mut nodes = vec![in heap; EMPTY; 8]?;
+        let mut nodes = vec![in heap; Slot::default(); 8]?;
         let mut names = vec![in heap; text; 8]?;
         let mut plan = Plan::new();
         if plan
