@@ -3,13 +3,13 @@ ghost use Rattle.std.specs.Prelude.{◌≡◌, length};
 
 pub mod methods;
 
-// A place that is told is counted from 1, and 0 tells that there is none.
+// Places and keys are counted from 0.
 #[derive(Drop)]
 pub struct Chain<const KEYS: usize, const PLACES: usize> {
     // for each key the newest place that holds it
-    heads: [u16; KEYS],
+    heads: [Option<u16>; KEYS],
     // for each place the one before it with the same key
-    nexts: [u16; PLACES],
+    nexts: [Option<u16>; PLACES],
     ghost keys: { length heads ≡ KEYS },
     ghost places: { length nexts ≡ PLACES },
 }

@@ -1,5 +1,5 @@
 // Making chains, following them, and adding places to them.
-ghost use Rattle.std.specs.Prelude.{◌≡◌, ◌+◌, slice_index};
+ghost use Rattle.std.specs.Prelude.{◌≡◌, None, slice_index_or};
 ghost use Rattle.chains.specs.Chains.{links, unlinked, hooked};
 
 use super::Chain;
@@ -10,39 +10,31 @@ impl<const KEYS: usize, const PLACES: usize> Chain<KEYS, PLACES> {
         ensures { links result ≡ unlinked KEYS PLACES }
     {
         Chain {
-            heads: [0; KEYS],
-            nexts: [0; PLACES],
+            heads: [None; KEYS],
+            nexts: [None; PLACES],
         }
     }
 
     // The newest place that holds the key.
-    pub fn first(&self, key: u16) -> u16
-        ensures { result ≡ slice_index (links self.now).heads key }
+    pub fn first(&self, key: u16) -> Option<u16>
+        ensures { result ≡ slice_index_or (links self.now).heads key None }
     {
-        if key as usize >= KEYS {
-            return 0;
-        }
-        self.heads[key as usize]
+        *self.heads.get(usize::from(key))?
     }
 
-    // The place before `at` that holds the same key; `at` itself is counted from 0.
-    pub fn before(&self, at: u16) -> u16
-        ensures { result ≡ slice_index (links self.now).nexts at }
+    // The place before `at` that holds the same key.
+    pub fn before(&self, at: u16) -> Option<u16>
+        ensures { result ≡ slice_index_or (links self.now).nexts at None }
     {
-        if at as usize >= PLACES {
-            return 0;
-        }
-        self.nexts[at as usize]
+        *self.nexts.get(usize::from(at))?
     }
 
-    // Makes `at`, counted from 0, the newest place that holds the key; a place or a key outside changes nothing.
+    // Makes `at` the newest place that holds the key; a place or a key outside changes nothing.
     pub fn hook(&mut self, at: u16, key: u16)
         ensures { links self.new ≡ hooked (links self.old) at key }
     {
-        if at == u16::MAX || at as usize >= PLACES || key as usize >= KEYS {
-            return;
+        if usize::from(at) < PLACES && usize::from(key) < KEYS {
+            self.nexts[usize::from(at)] = self.heads[usize::from(key)].replace(at);
         }
-        self.nexts[at as usize] = self.heads[key as usize];
-        self.heads[key as usize] = at + 1;
     }
 }
