@@ -1,19 +1,20 @@
 -- What entering a node does to what was seen.
-use Rattle.std.proofs.Common.{◌≡◌, ℕ, ◌+◌, ◌<◌, ◌≤◌, Bool, true, false, cond, ◌&&◌, eqb, ltb, leb, List, [], ◌∷◌, ◌++◌, map, length, take, set, Some, None, Option, sym, refl, ap, ◌∙◌, ⊎_elim, arith, Bor}
+use Rattle.std.proofs.Common.{◌≡◌, ℕ, ◌+◌, ◌<◌, ◌≤◌, Bool, true, false, cond, ◌&&◌, eqb, ltb, leb, List, [], ◌∷◌, ◌++◌, map, length, take, set, Some, None, Option, sym, refl, ap, ◌∙◌, ⊎_elim, arith}
 use lib.ListN.{length-map}
 use Rattle.std.proofs.lemmas.List.{length-take-le, take_more_set}
 use Rattle.std.proofs.lemmas.Bool.{ltb-false, leb-false, and_cases}
-use Rattle.tags.specs.declared.token.Tag.{Tag}
 use Rattle.tree.specs.declared.slot.Slot.{Slot}
-use Rattle.plan.specs.declared.counts.Counts.{Counts}
+use Rattle.tree.specs.Stacks.{items}
 use Rattle.plan.specs.declared.counts.Room.{Room}
+use Rattle.plan.specs.declared.draft.Draft.{Draft}
 use Rattle.plan.specs.declared.fault.Rule.{Rule}
 use Rattle.plan.specs.declared.fault.Rule.TheVariants.{Outside, LongName, TooDeep, NodesFull, NamesFull}
 use Rattle.plan.specs.Plans.{grown, hindrance, refused_or, enter}
+use Rattle.plan.specs.Drafts.{seen, names_of, room_of}
+use Rattle.plan.specs.Reads.{name_of}
 use Rattle.names.specs.Lists.{before, with_name}
-use Rattle.plan.specs.Reads.{name_of, known, seen_of}
 use Rattle.names.proofs.Found.{none_some}
-use Rattle.plan.proofs.Known.{known_length}
+use Rattle.plan.proofs.Known.{names_many}
 
 cond_none : {A : Type 0} (b : Bool) (x : A) (o : Option A) → cond b (Some x) o ≡ None → (b ≡ false) × (o ≡ None)
 cond_none true x o e = absurd (none_some x (sym e))
@@ -42,17 +43,21 @@ hindrance_none m o n k l f e =
       names = λ h. ⊎_elim (λ x. absurd (omega (arith, leb-false k f x))) (λ x. leb-false m.names k x) (and_cases (leb k f) (leb m.names k) g.0);
     }
 
-module _ (m : Room) (p : ℕ) (os : List Tag) (ns : List Slot) (ms : List (Bor (List ℕ))) (c : Counts) (n : List ℕ) (nodes : c.nodes ≤ length ns) (names : c.names ≤ length ms) where
-  pub enter_is : (o : Option Rule) → o ≡ hindrance m (length os) c.nodes c.names (length n) (before n (known c.names ms)) → refused_or p (grown p (seen_of os ns ms c) n) o ≡ enter m p (seen_of os ns ms c) n
-  enter_is o e =
-      let a : length os ≡ length (map name_of os) = sym (length-map os name_of) in
-      let b : c.nodes ≡ length (take c.nodes ns) = sym (length-take-le c.nodes ns nodes) in
-      let d : c.names ≡ length (known c.names ms) = sym (known_length c.names ms names) in
-      ap (refused_or p (grown p (seen_of os ns ms c) n))
-      (e ∙ (λ i. hindrance m (a i) (b i) (d i) (length n) (before n (known c.names ms))))
+module _ (d : Draft) (p : ℕ) (n : List ℕ) where
+  tags_many : length (items d.opened.now) ≡ length (seen d).opened
+  tags_many = sym (length-map (items d.opened.now) name_of)
 
-  pub grown_is : (s : Slot) (ns' : List Slot) (ms' : List (Bor (List ℕ))) (k : ℕ) → c.nodes < length ns → ns' ≡ set ns c.nodes s → s.label ≡ before n (known c.names ms) + 1 → s.depth ≡ length os + 1 → s.place ≡ p → known k ms' ≡ with_name n (known c.names ms) → seen_of os ns' ms' (record { nodes = c.nodes + 1; names = k }) ≡ grown p (seen_of os ns ms c) n
-  grown_is s ns' ms' k l e lab dep pla nam =
-      let slot : s ≡ record { label = before n (known c.names ms) + 1; depth = length (map name_of os) + 1; place = p } = λ i. record { label = lab i; depth = (dep ∙ ap (λ (z : ℕ). z + 1) (sym (length-map os name_of))) i; place = pla i } in
-      let whole : take (c.nodes + 1) ns' ≡ take c.nodes ns ++ record { label = before n (known c.names ms) + 1; depth = length (map name_of os) + 1; place = p } ∷ [] = ap (take (c.nodes + 1)) e ∙ take_more_set ns c.nodes s l ∙ ap (λ (z : Slot). take c.nodes ns ++ z ∷ []) slot in
-      λ i. record { opened = map name_of os; nodes = whole i; names = nam i }
+  nodes_many : d.counts.nodes ≡ length (seen d).nodes
+  nodes_many = sym (length-take-le d.counts.nodes d.nodes.now (omega (arith, d.within.nodes)))
+
+  pub enter_is : (o : Option Rule) → o ≡ hindrance (room_of d) (length (items d.opened.now)) d.counts.nodes d.counts.names (length n) (before n (names_of d)) → refused_or p (grown p (seen d) n) o ≡ enter (room_of d) p (seen d) n
+  enter_is o e =
+      ap (refused_or p (grown p (seen d) n))
+      (e ∙ (λ i. hindrance (room_of d) (tags_many i) (nodes_many i) (sym (names_many d) i) (length n) (before n (names_of d))))
+
+  -- the draft e has the node s more
+  pub grown_is : (e : Draft) (s : Slot) → d.counts.nodes < length d.nodes.now → e.counts.nodes ≡ d.counts.nodes + 1 → e.nodes.now ≡ set d.nodes.now d.counts.nodes s → s ≡ record { label = before n (names_of d) + 1; depth = length (items d.opened.now) + 1; place = p } → items e.opened.now ≡ items d.opened.now → names_of e ≡ with_name n (names_of d) → seen e ≡ grown p (seen d) n
+  grown_is e s room more nodes slot tags names =
+      let slot-is : s ≡ record { label = before n (names_of d) + 1; depth = length (seen d).opened + 1; place = p } = slot ∙ ap (λ (z : ℕ). record { label = before n (names_of d) + 1; depth = z + 1; place = p }) tags_many in
+      let whole : take e.counts.nodes e.nodes.now ≡ (grown p (seen d) n).nodes = (λ i. take (more i) (nodes i)) ∙ take_more_set d.nodes.now d.counts.nodes s room ∙ ap (λ (z : Slot). take d.counts.nodes d.nodes.now ++ z ∷ []) slot-is in
+      λ i. record { opened = map name_of (tags i); nodes = whole i; names = names i }

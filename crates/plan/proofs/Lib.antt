@@ -1,7 +1,6 @@
 pub mod Known
 pub mod Hashed
 pub mod Enters
-pub mod Steps
 pub mod Outcomes
 pub mod Sofar
 pub mod Held

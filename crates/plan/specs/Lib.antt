@@ -4,3 +4,4 @@ pub mod Plans
 pub mod Reads
 pub mod Documents
 pub mod Trees
+pub mod Drafts

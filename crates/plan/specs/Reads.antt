@@ -2,7 +2,6 @@
 --     room_in ns ms         how many nodes and names there is room for in the slots ns and ms
 --     known k ms            the names in the first k slots
 --     seen_of os ns ms c    what was seen, from the open tags, the slots and the counts
---     taken r os ns ms      the same behind a result
 --     Filled f done was is  the slots were `was` and are `is`: the first ones hold `done`, all others what they held
 --     Reading text r ns ns' ms ms'   reading the text answers r as its outcome says, and fills the slots with what was read
 use Rattle.std.specs.Prelude.{◌≡◌, ℕ, ◌≤◌, Bool, false, List, [], ◌∷◌, map, length, take, drop, Ok, Err, Result}
@@ -30,20 +29,6 @@ name_of t = t.name.now
 abbrev pub seen_of : List Tag → List Slot → List (Bor (List ℕ)) → Counts → Seen
 seen_of os ns ms c = record { opened = map name_of os; nodes = take c.nodes ns; names = known c.names ms }
 
-abbrev pub taken : Result Counts PlanFault → List Tag → List Slot → List (Bor (List ℕ)) → Result Seen PlanFault
-taken (Ok c) os ns ms = Ok (seen_of os ns ms c)
-taken (Err e) os ns ms = Err e
-
--- slots past the count that r holds are as they were; all of them, if r holds none
-abbrev pub Kept : {X : Type 0} → (Counts → ℕ) → Result Counts PlanFault → List X → List X → Type 0
-Kept f (Ok c) was is = drop (f c) is ≡ drop (f c) was
-Kept f (Err e) was is = is ≡ was
-
--- the names that r counts, if any, can be found by the links l
-abbrev pub FindableAfter : Result Counts PlanFault → List (Bor (List ℕ)) → Links → Type 0
-FindableAfter (Ok c) ms l = Findable (known c.names ms) l
-FindableAfter (Err e) ms l = Unit {0}
-
 pub record Filled {X Y : Type 0} (f : X → Y) (done : List Y) (was is : List X) : Type 0 where
   pub front : map f (take (length done) is) ≡ done
   pub rest : drop (length done) is ≡ drop (length done) was
@@ -51,22 +36,6 @@ pub record Filled {X Y : Type 0} (f : X → Y) (done : List Y) (was is : List X)
 pub record Within (m : Room) (c : Counts) : Type 0 where
   pub nodes : c.nodes ≤ m.nodes
   pub names : c.names ≤ m.names
-
--- the counts d are within the room and not below the counts c
-pub record Beyond (m : Room) (c d : Counts) : Type 0 where
-  pub within : Within m d
-  pub nodes : c.nodes ≤ d.nodes
-  pub names : c.names ≤ d.names
-
--- so are the counts that r holds, if any
-abbrev pub Left : Room → Counts → Result Counts PlanFault → Type 0
-Left m c (Ok d) = Beyond m c d
-Left m c (Err e) = Unit {0}
-
--- the innermost open tag has the name n exactly if r, and is then left
-abbrev pub LeftOpen : List Tag → List ℕ → Bool → List Tag → Type 0
-LeftOpen [] n r ys = r ≡ false
-LeftOpen (x ∷ xs) n r ys = (r ≡ bytes_eq (name_of x) n) × (ys ≡ xs)
 
 -- a reading answers r as the outcome o says, and fills the slots with the nodes and names of o
 pub record Read (o : Result Counts PlanFault × Seen) (r : Result Counts PlanFault) (ns ns' : List Slot) (ms ms' : List (Bor (List ℕ))) : Type 0 where

@@ -2,7 +2,8 @@
 #![tactic(auto)]
 
 pub mod counts;
+mod draft;
 pub mod fault;
-mod find;
+mod hash;
 pub mod laws;
 pub mod read;

@@ -1,11 +1,8 @@
-use Rattle.std.proofs.Common.{length, ap, arith}
+use Rattle.std.proofs.Common.{length}
 use Rattle.plan.specs.Plans.{room}
 use Rattle.plan.proofs.Accepts.{judged}
 use Rattle.plan.proofs.Planned.{planned}
 use Rattle.plan.proofs.read.read.Goals as goal
-
-pub read_pieces-requires : goal.read_pieces-requires
-read_pieces-requires c = record { short = omega arith; depth = ap length c.new-opened.ensures.slots; closed = c.new-opened.ensures.items }
 
 pub returns : goal.returns
 returns c =

@@ -1,0 +1,160 @@
+// What the pieces of a text do to a draft.
+ghost use Rattle.std.specs.Prelude.{◌≡◌, ◌≤◌, ◌<◌, length, OnErr};
+ghost use Rattle.names.specs.Lists.{before as before_of};
+ghost use Rattle.tags.specs.Readers.{piece_of, piece_place};
+ghost use Rattle.tree.specs.Stacks.{items};
+ghost use Rattle.plan.specs.Faults.{fault};
+ghost use Rattle.plan.specs.Plans.{hindrance as hindrance_of, enter as enter_of, leave as leave_of, step as step_of, passes as passes_at, finish_at, nothing};
+ghost use Rattle.plan.specs.Reads.{Reading};
+ghost use Rattle.plan.specs.Drafts.{names_of, room_of, seen, taken, Found, Follows, SameSlots};
+
+use super::{Draft, MOST_DEPTH};
+use crate::counts::{Counts, Room};
+use crate::fault::{PlanFault, Rule};
+use names::bytes::is_white;
+use tags::reader::Reader;
+use tags::token::{Piece, Tag, Token};
+use tree::slot::Slot;
+
+const MOST_NODES: usize = 4096;
+
+const MOST_NAMES: usize = 512;
+
+const LONGEST_NAME: usize = 64;
+
+fn refused(rule: Rule, place: usize) -> PlanFault
+    requires { place ≤ 65536 }
+    ensures { result ≡ fault rule place }
+{
+    PlanFault {
+        rule,
+        place: place as u32,
+    }
+}
+
+// Whether a byte may stand as text where `depth` tags are open.
+fn passes(depth: usize, b: u8) -> bool
+    ensures { result ≡ passes_at depth b }
+{
+    depth != 0 || is_white(b)
+}
+
+impl<'n, 's, 'o, 't, 'a> Draft<'n, 's, 'o, 't, 'a> {
+    fn room(&self) -> Room
+        ensures { result ≡ room_of self.now }
+    {
+        Room {
+            nodes: self.nodes.len().min(MOST_NODES),
+            names: self.names.len().min(MOST_NAMES),
+        }
+    }
+
+    // Why a node with this name cannot be added.
+    fn hindrance(&self, name: &[u8], found: Option<u16>) -> Option<Rule>
+        requires { Found (names_of self.now) name.now found }
+        ensures { result ≡ hindrance_of (room_of self.now) (length (items self.now.opened.now)) self.now.counts.nodes self.now.counts.names (length name.now) (before_of name.now (names_of self.now)) }
+    {
+        let depth = self.opened.len();
+        let room = self.room();
+        if depth == 0 && self.counts.nodes > 0 {
+            Some(Rule::Outside)
+        } else if name.len() > LONGEST_NAME {
+            Some(Rule::LongName)
+        } else if depth >= MOST_DEPTH {
+            Some(Rule::TooDeep)
+        } else if usize::from(self.counts.nodes) >= room.nodes {
+            Some(Rule::NodesFull)
+        } else if found.is_none() && usize::from(self.counts.names) >= room.names {
+            Some(Rule::NamesFull)
+        } else {
+            None
+        }
+    }
+
+    // Adds the node of a start or empty tag, or refuses it.
+    fn enter(&mut self, tag: Tag<'a>) -> Result<(), PlanFault>
+        requires short { tag.place ≤ 65536 }
+        ensures taken { taken result (seen self.new) ≡ enter_of (room_of self.old) tag.entry.place (seen self.old) tag.entry.name.now }
+        ensures follows { Follows self.old self.new }
+        ensures refused { OnErr result (SameSlots self.old self.new) }
+        ensures opened { self.new.opened ≡ self.old.opened }
+    {
+        let found = self.find_name(tag.name);
+        if let Some(rule) = self.hindrance(tag.name, found) {
+            return Err(refused(rule, tag.place));
+        }
+        let depth = self.opened.len();
+        let at = self.add_name(tag.name, found);
+        self.nodes[usize::from(self.counts.nodes)] = Slot {
+            label: at + 1,
+            depth: depth as u16 + 1,
+            place: tag.place as u32,
+        };
+        self.counts.nodes += 1;
+        Ok(())
+    }
+
+    // Closes the innermost open tag, or refuses an end tag that has another name.
+    fn leave(&mut self, tag: Tag<'a>) -> Result<(), PlanFault>
+        requires short { tag.place ≤ 65536 }
+        ensures taken { taken result (seen self.new) ≡ leave_of tag.entry.place (seen self.old) tag.entry.name.now (seen self.old).opened }
+        ensures follows { Follows self.old self.new }
+        ensures same { SameSlots self.old self.new }
+    {
+        match self.opened.pop() {
+            Some(top) if top.name == tag.name => Ok(()),
+            _ => Err(refused(Rule::WrongEnd, tag.place)),
+        }
+    }
+
+    // Takes the next piece of the text, or refuses it.
+    fn take(&mut self, piece: Piece<'a>) -> Result<(), PlanFault>
+        requires short { piece_place piece ≤ 65536 }
+        ensures taken { taken result (seen self.new) ≡ step_of (room_of self.old) (piece_place piece.entry) (seen self.old) (piece_of piece.entry) }
+        ensures follows { Follows self.old self.new }
+        ensures refused { OnErr result (SameSlots self.old self.new) }
+    {
+        match piece {
+            Piece::Text { byte, place } => {
+                if !passes(self.opened.len(), byte) {
+                    return Err(refused(Rule::Outside, place));
+                }
+                Ok(())
+            }
+            Piece::Tag(Token::Start(tag)) => {
+                self.enter(tag)?;
+                let _ = self.opened.push(tag);
+                Ok(())
+            }
+            Piece::Tag(Token::Empty(tag)) => self.enter(tag),
+            Piece::Tag(Token::End(tag)) => self.leave(tag),
+            Piece::NoTag { place } => Err(refused(Rule::NoTag, place)),
+        }
+    }
+
+    // What is said where the text ends.
+    fn finish(&self, place: usize) -> Result<Counts, PlanFault>
+        requires { place ≤ 65536 }
+        ensures { result ≡ finish_at place (length (items self.now.opened.now)) self.now.counts }
+    {
+        if self.opened.len() == 0 && self.counts.nodes > 0 {
+            Ok(self.counts)
+        } else {
+            Err(refused(Rule::Unfinished, place))
+        }
+    }
+
+    // Reads the pieces of a text, as far as none is refused.
+    pub fn read(&mut self, text: &'a [u8]) -> Result<Counts, PlanFault>
+        requires short { length text.now ≤ 65536 }
+        requires fresh { seen self.old ≡ nothing }
+        ensures read { Reading text.now result self.old.nodes.now self.new.nodes.now self.old.names.now self.new.names.now }
+        ensures follows { Follows self.old self.new }
+    {
+        let mut reader = Reader::new(text);
+        while let Some(piece) = reader.next() {
+            self.take(piece)?;
+        }
+        self.finish(text.len())
+    }
+}
