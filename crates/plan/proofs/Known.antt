@@ -1,5 +1,5 @@
 -- The names that a draft knows, and adding one.
-use Rattle.std.proofs.Common.{◌≡◌, ℕ, ◌+◌, ◌<◌, ◌≤◌, List, [], ◌∷◌, ◌++◌, length, get_or, take, set, sym, ap, ◌∙◌, subst, arith, Bor}
+use Rattle.std.proofs.Common.{◌≡◌, ℕ, ◌+◌, ◌<◌, ◌≤◌, List, [], length, get_or, take, set, sym, ap, ◌∙◌, subst, arith, Bor}
 use lib.ListN.{length-map}
 use Rattle.std.proofs.lemmas.List.{take_more_set, map_push, length-take-le, get_or-map, get_or-take}
 use Rattle.chains.specs.Chains.{links, hooked}

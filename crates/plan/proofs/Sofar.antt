@@ -1,5 +1,5 @@
 -- What a turn of the reading loop keeps.
-use Rattle.std.proofs.Common.{◌≡◌, ℕ, ◌+◌, ◌-◌, ◌<◌, ◌≤◌, List, [], map, length, take, drop, Some, None, Ok, Err, Result, sym, refl, ap, ◌∙◌, subst, arith, Bor}
+use Rattle.std.proofs.Common.{◌≡◌, ℕ, ◌+◌, ◌-◌, ◌<◌, ◌≤◌, List, length, take, drop, Some, None, Ok, Err, Result, sym, refl, ap, ◌∙◌, subst, arith, Bor}
 use lib.ListN.{length-map}
 use Rattle.std.proofs.lemmas.List.{map-id, length-take-le, drop-drop}
 use Rattle.tree.specs.Stacks.{items}
@@ -9,12 +9,11 @@ use Rattle.tags.specs.Readers.{ahead}
 use Rattle.tags.proofs.Firsts.{first_shorter}
 use Rattle.tags.proofs.Places.{placed_some, placed_none}
 use Rattle.plan.specs.declared.counts.Counts.{Counts}
-use Rattle.plan.specs.declared.counts.Room.{Room}
 use Rattle.plan.specs.declared.draft.Draft.{Draft}
 use Rattle.plan.specs.declared.fault.PlanFault.{PlanFault}
 use Rattle.plan.specs.Plans.{Seen, nothing, room, step, finish_at, finish, run, outcome}
 use Rattle.plan.specs.Reads.{name_of, known, Read, Reading}
-use Rattle.plan.specs.Drafts.{seen, names_of, room_of, Follows, SameSlots}
+use Rattle.plan.specs.Drafts.{seen, room_of, Follows, SameSlots}
 use Rattle.plan.proofs.Known.{names_many}
 use Rattle.plan.proofs.Outcomes.{run_end, run_more, run_refused, outcome_is}
 
@@ -104,9 +103,6 @@ module _ (text : List ℕ) (d e : Draft) (reader : Reader) (h : Sofar text d e r
     is_first : first (ahead reader) ≡ Some (piece, ahead reader')
     is_first = sym (placed_some _ p piece (ahead reader') _ got).1
 
-    pub within_text : p ≤ length text
-    within_text = omega (arith, here)
-
     at_place : (o : Result Seen PlanFault) → o ≡ step (room_of e) p (seen e) piece → step (room_of d) (length text - length (ahead reader)) (seen e) piece ≡ o
     at_place o s = (λ i. step (sym same_room i) (here i) (seen e) piece) ∙ sym s
 
@@ -117,8 +113,8 @@ module _ (text : List ℕ) (d e : Draft) (reader : Reader) (h : Sofar text d e r
     pub refused : (g : Draft) (x : PlanFault) → Err x ≡ step (room_of e) p (seen e) piece → SameSlots e g → Reading text (Err x) d.nodes.now g.nodes.now d.names.now g.names.now
     refused g x s same =
         let base = read_is (outcome (room_of d) text) (Err x) d e h.follows
-            (sym (run_refused (room_of d) (length text) (seen e) (ahead reader) piece (ahead reader') is_first h.more x h.enough (at_place (Err x) s))
-            ∙ h.left) in
+        (sym (run_refused (room_of d) (length text) (seen e) (ahead reader) piece (ahead reader') is_first h.more x h.enough (at_place (Err x) s))
+        ∙ h.left) in
         rw (same.nodes, same.names) base
 
     -- the piece is taken

@@ -4,16 +4,13 @@
 --     seen_of os ns ms c    what was seen, from the open tags, the slots and the counts
 --     Filled f done was is  the slots were `was` and are `is`: the first ones hold `done`, all others what they held
 --     Reading text r ns ns' ms ms'   reading the text answers r as its outcome says, and fills the slots with what was read
-use Rattle.std.specs.Prelude.{◌≡◌, ℕ, ◌≤◌, Bool, false, List, [], ◌∷◌, map, length, take, drop, Ok, Err, Result}
-use Rattle.std.specs.Str.{bytes_eq}
+use Rattle.std.specs.Prelude.{◌≡◌, ℕ, ◌≤◌, List, map, length, take, drop, Result}
 use Rattle.std.specs.Borrow.{Bor}
 use Rattle.tags.specs.declared.token.Tag.{Tag}
 use Rattle.tree.specs.declared.slot.Slot.{Slot}
 use Rattle.plan.specs.declared.counts.Counts.{Counts}
 use Rattle.plan.specs.declared.counts.Room.{Room}
 use Rattle.plan.specs.declared.fault.PlanFault.{PlanFault}
-use Rattle.chains.specs.Chains.{Links}
-use Rattle.plan.specs.Hashes.{Findable}
 use Rattle.plan.specs.Plans.{Seen, room, outcome}
 use Rattle.names.specs.Lists.{texts}
 

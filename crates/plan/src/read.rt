@@ -15,7 +15,7 @@ use tree::stack::Stack;
 
 const MOST_BYTES: usize = 65536;
 
-// `opened` is to hold the open tags.
+// The draft is written out in a function of its own: where a function answers one, nothing is proved of the lent name slots.
 fn read_pieces<'a>(
     text: &'a [u8],
     opened: &mut Stack<'_, Tag<'a>>,

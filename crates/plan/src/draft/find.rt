@@ -6,7 +6,7 @@ ghost use Rattle.plan.specs.Drafts.{names_of, room_of, Found, Follows};
 use super::Draft;
 use crate::hash::hash;
 
-impl<'n, 's, 'o, 't, 'a> Draft<'n, 's, 'o, 't, 'a> {
+impl<'a> Draft<'_, '_, '_, '_, 'a> {
     // The place of the name among the known ones.
     pub fn find_name(&self, name: &[u8]) -> Option<u16>
         ensures { Found (names_of self.now) name.now result }
@@ -38,7 +38,8 @@ impl<'n, 's, 'o, 't, 'a> Draft<'n, 's, 'o, 't, 'a> {
         }
         let at = self.counts.names;
         self.names[usize::from(at)] = name;
-        self.chain.hook(at, hash(name));
+        let key = hash(name);
+        self.chain.hook(at, key);
         self.counts.names = at + 1;
         at
     }

@@ -4,7 +4,7 @@ ghost use Rattle.names.specs.Lists.{before as before_of};
 ghost use Rattle.tags.specs.Readers.{piece_of, piece_place};
 ghost use Rattle.tree.specs.Stacks.{items};
 ghost use Rattle.plan.specs.Faults.{fault};
-ghost use Rattle.plan.specs.Plans.{hindrance as hindrance_of, enter as enter_of, leave as leave_of, step as step_of, passes as passes_at, finish_at, nothing};
+ghost use Rattle.plan.specs.Plans.{grown, enter as enter_of, leave as leave_of, step as step_of, passes as passes_at, finish_at, nothing};
 ghost use Rattle.plan.specs.Reads.{Reading};
 ghost use Rattle.plan.specs.Drafts.{names_of, room_of, seen, taken, Found, Follows, SameSlots};
 
@@ -39,7 +39,7 @@ fn passes(depth: usize, b: u8) -> bool
     depth != 0 || is_white(b)
 }
 
-impl<'n, 's, 'o, 't, 'a> Draft<'n, 's, 'o, 't, 'a> {
+impl<'a> Draft<'_, '_, '_, '_, 'a> {
     fn room(&self) -> Room
         ensures { result ≡ room_of self.now }
     {
@@ -49,25 +49,26 @@ impl<'n, 's, 'o, 't, 'a> Draft<'n, 's, 'o, 't, 'a> {
         }
     }
 
-    // Why a node with this name cannot be added.
-    fn hindrance(&self, name: &[u8], found: Option<u16>) -> Option<Rule>
-        requires { Found (names_of self.now) name.now found }
-        ensures { result ≡ hindrance_of (room_of self.now) (length (items self.now.opened.now)) self.now.counts.nodes self.now.counts.names (length name.now) (before_of name.now (names_of self.now)) }
+    // Refuses the node of a tag that cannot be added. `found` is the place of its name.
+    fn hindrance(&self, tag: Tag<'_>, found: Option<u16>) -> Result<(), PlanFault>
+        requires short { tag.place ≤ 65536 }
+        requires found { Found (names_of self.now) tag.name.now found }
+        ensures { taken result (grown tag.entry.place (seen self.now) tag.entry.name.now) ≡ enter_of (room_of self.now) tag.entry.place (seen self.now) tag.entry.name.now }
     {
         let depth = self.opened.len();
         let room = self.room();
         if depth == 0 && self.counts.nodes > 0 {
-            Some(Rule::Outside)
-        } else if name.len() > LONGEST_NAME {
-            Some(Rule::LongName)
+            Err(refused(Rule::Outside, tag.place))
+        } else if tag.name.len() > LONGEST_NAME {
+            Err(refused(Rule::LongName, tag.place))
         } else if depth >= MOST_DEPTH {
-            Some(Rule::TooDeep)
+            Err(refused(Rule::TooDeep, tag.place))
         } else if usize::from(self.counts.nodes) >= room.nodes {
-            Some(Rule::NodesFull)
+            Err(refused(Rule::NodesFull, tag.place))
         } else if found.is_none() && usize::from(self.counts.names) >= room.names {
-            Some(Rule::NamesFull)
+            Err(refused(Rule::NamesFull, tag.place))
         } else {
-            None
+            Ok(())
         }
     }
 
@@ -80,9 +81,7 @@ impl<'n, 's, 'o, 't, 'a> Draft<'n, 's, 'o, 't, 'a> {
         ensures opened { self.new.opened ≡ self.old.opened }
     {
         let found = self.find_name(tag.name);
-        if let Some(rule) = self.hindrance(tag.name, found) {
-            return Err(refused(rule, tag.place));
-        }
+        self.hindrance(tag, found)?;
         let depth = self.opened.len();
         let at = self.add_name(tag.name, found);
         self.nodes[usize::from(self.counts.nodes)] = Slot {
@@ -115,12 +114,8 @@ impl<'n, 's, 'o, 't, 'a> Draft<'n, 's, 'o, 't, 'a> {
         ensures refused { OnErr result (SameSlots self.old self.new) }
     {
         match piece {
-            Piece::Text { byte, place } => {
-                if !passes(self.opened.len(), byte) {
-                    return Err(refused(Rule::Outside, place));
-                }
-                Ok(())
-            }
+            Piece::Text { byte, .. } if passes(self.opened.len(), byte) => Ok(()),
+            Piece::Text { place, .. } => Err(refused(Rule::Outside, place)),
             Piece::Tag(Token::Start(tag)) => {
                 self.enter(tag)?;
                 let _ = self.opened.push(tag);

@@ -1,4 +1,4 @@
-use Rattle.std.proofs.Common.{◌≡◌, ℕ, ◌+◌, ◌<◌, length, set, sym, subst, arith}
+use Rattle.std.proofs.Common.{◌≡◌, ℕ, ◌+◌, length, set, sym, subst, arith}
 use Rattle.chains.specs.Chains.{Links, links, hooked}
 use Rattle.names.specs.Lists.{before}
 use Rattle.plan.specs.Drafts.{names_of, Found}
@@ -13,5 +13,5 @@ invariant_of-self-clause-findable c =
     let new : before c.args.name.now (names_of d) ≡ length (names_of d) = subst (Found (names_of d) c.args.name.now) c.in_default.is c.requires.found in
     let room = c.requires.room c.in_default.is in
     subst (λ (l : Links). Findable (known (d.counts.names + 1) (set d.names.now c.from.result c.args.name)) l) (sym c.hook.ensures)
-    (subst (λ (j : ℕ). Findable (known (d.counts.names + 1) (set d.names.now j c.args.name)) (hooked (links d.chain) d.counts.names c.hash.result)) (sym c.from.ensures)
-    (known_findable d c.args.name new (omega arith) c.hash.result c.hash.ensures (omega arith)))
+    (subst (λ (j : ℕ). Findable (known (d.counts.names + 1) (set d.names.now j c.args.name)) (hooked (links d.chain) d.counts.names c.hash-key.result)) (sym c.from.ensures)
+    (known_findable d c.args.name new (omega arith) c.hash-key.result c.hash-key.ensures (omega arith)))

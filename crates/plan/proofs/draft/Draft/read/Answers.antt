@@ -4,7 +4,7 @@ use Rattle.plan.specs.declared.counts.Counts.{Counts}
 use Rattle.plan.specs.declared.fault.PlanFault.{PlanFault}
 use Rattle.plan.specs.Reads.{Reading}
 use Rattle.tags.specs.Readers.{piece_of, piece_place}
-use Rattle.plan.proofs.Sofar.{begun, less, refused, one_more, ended, follows_on}
+use Rattle.plan.proofs.Sofar.{less, refused, one_more, ended, follows_on}
 use Rattle.plan.proofs.draft.Draft.read.Goals as goal
 
 pub loop-piece-smaller : goal.loop-piece-smaller
