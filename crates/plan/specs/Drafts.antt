@@ -3,6 +3,7 @@
 --     names_of d      the names alone
 --     room_of d       how many nodes and names there is room for
 --     taken r s       what a step says that answered r and left s
+--     ruled p r s     the same at the place p, where r holds the rule alone
 --     Found ms n o    o is the place of the name n among the names ms, if it is among them
 --     Follows d e     the draft e has the slots of d, and those past its counts hold what they held
 --     SameSlots d e   all of them do
@@ -12,6 +13,8 @@ use Rattle.tree.specs.Stacks.{items}
 use Rattle.plan.specs.declared.counts.Room.{Room}
 use Rattle.plan.specs.declared.draft.Draft.{Draft}
 use Rattle.plan.specs.declared.fault.PlanFault.{PlanFault}
+use Rattle.plan.specs.declared.fault.Rule.{Rule}
+use Rattle.plan.specs.Faults.{fault}
 use Rattle.plan.specs.Plans.{Seen}
 use Rattle.plan.specs.Reads.{room_in, known, seen_of}
 
@@ -27,6 +30,10 @@ room_of d = room_in d.nodes.now d.names.now
 abbrev pub taken : Result (Unit {0}) PlanFault → Seen → Result Seen PlanFault
 taken (Ok u) s = Ok s
 taken (Err e) s = Err e
+
+abbrev pub ruled : ℕ → Result (Unit {0}) Rule → Seen → Result Seen PlanFault
+ruled p (Ok u) s = Ok s
+ruled p (Err k) s = Err (fault k p)
 
 abbrev pub Found : List (List ℕ) → List ℕ → Option ℕ → Type 0
 Found ms n None = before n ms ≡ length ms

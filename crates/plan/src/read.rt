@@ -15,7 +15,7 @@ use tree::stack::Stack;
 
 const MOST_BYTES: usize = 65536;
 
-// The draft is written out in a function of its own: where a function answers one, nothing is proved of the lent name slots.
+// Makes the draft and reads into it; of a draft that a call answers, it is not known what its name slots hold in the end.
 fn read_pieces<'a>(
     text: &'a [u8],
     opened: &mut Stack<'_, Tag<'a>>,

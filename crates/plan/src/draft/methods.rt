@@ -1,12 +1,11 @@
 // What the pieces of a text do to a draft.
-ghost use Rattle.std.specs.Prelude.{◌≡◌, ◌≤◌, ◌<◌, length, OnErr};
+ghost use Rattle.std.specs.Prelude.{◌≡◌, ◌≤◌, ◌<◌, length, MatchResult, OnErr};
 ghost use Rattle.names.specs.Lists.{before as before_of};
 ghost use Rattle.tags.specs.Readers.{piece_of, piece_place};
 ghost use Rattle.tree.specs.Stacks.{items};
-ghost use Rattle.plan.specs.Faults.{fault};
-ghost use Rattle.plan.specs.Plans.{grown, enter as enter_of, leave as leave_of, step as step_of, passes as passes_at, finish_at, nothing};
+ghost use Rattle.plan.specs.Plans.{hindrance as hindrance_of, enter as enter_of, leave as leave_of, step as step_of, passes as passes_at, finish_at, nothing};
 ghost use Rattle.plan.specs.Reads.{Reading};
-ghost use Rattle.plan.specs.Drafts.{names_of, room_of, seen, taken, Found, Follows, SameSlots};
+ghost use Rattle.plan.specs.Drafts.{names_of, room_of, seen, ruled, taken, Found, Follows, SameSlots};
 
 use super::{Draft, MOST_DEPTH};
 use crate::counts::{Counts, Room};
@@ -22,13 +21,13 @@ const MOST_NAMES: usize = 512;
 
 const LONGEST_NAME: usize = 64;
 
-fn refused(rule: Rule, place: usize) -> PlanFault
-    requires { place ≤ 65536 }
-    ensures { result ≡ fault rule place }
+// Where the piece begins.
+fn place_of(piece: Piece<'_>) -> usize
+    ensures { result ≡ piece_place piece.entry }
 {
-    PlanFault {
-        rule,
-        place: place as u32,
+    match piece {
+        Piece::Text { place, .. } | Piece::NoTag { place } => place,
+        Piece::Tag(Token::Start(tag) | Token::Empty(tag) | Token::End(tag)) => tag.place,
     }
 }
 
@@ -49,39 +48,38 @@ impl<'a> Draft<'_, '_, '_, '_, 'a> {
         }
     }
 
-    // Refuses the node of a tag that cannot be added. `found` is the place of its name.
-    fn hindrance(&self, tag: Tag<'_>, found: Option<u16>) -> Result<(), PlanFault>
-        requires short { tag.place ≤ 65536 }
-        requires found { Found (names_of self.now) tag.name.now found }
-        ensures { taken result (grown tag.entry.place (seen self.now) tag.entry.name.now) ≡ enter_of (room_of self.now) tag.entry.place (seen self.now) tag.entry.name.now }
+    // Whether a node with this name can be added, or the rule that it breaks. `found` is the place of the name.
+    fn hindrance(&self, name: &[u8], found: Option<u16>) -> Result<(), Rule>
+        requires { Found (names_of self.now) name.now found }
+        ensures { let why = hindrance_of (room_of self.now) (length (items self.now.opened.now)) self.now.counts.nodes self.now.counts.names (length name.now) (before_of name.now (names_of self.now)) in MatchResult result (λ _. why ≡ None) (λ rule. why ≡ Some rule) }
     {
         let depth = self.opened.len();
         let room = self.room();
         if depth == 0 && self.counts.nodes > 0 {
-            Err(refused(Rule::Outside, tag.place))
-        } else if tag.name.len() > LONGEST_NAME {
-            Err(refused(Rule::LongName, tag.place))
+            Err(Rule::Outside)
+        } else if name.len() > LONGEST_NAME {
+            Err(Rule::LongName)
         } else if depth >= MOST_DEPTH {
-            Err(refused(Rule::TooDeep, tag.place))
+            Err(Rule::TooDeep)
         } else if usize::from(self.counts.nodes) >= room.nodes {
-            Err(refused(Rule::NodesFull, tag.place))
+            Err(Rule::NodesFull)
         } else if found.is_none() && usize::from(self.counts.names) >= room.names {
-            Err(refused(Rule::NamesFull, tag.place))
+            Err(Rule::NamesFull)
         } else {
             Ok(())
         }
     }
 
-    // Adds the node of a start or empty tag, or refuses it.
-    fn enter(&mut self, tag: Tag<'a>) -> Result<(), PlanFault>
+    // Adds the node of a start or empty tag, or answers the rule that it breaks.
+    fn enter(&mut self, tag: Tag<'a>) -> Result<(), Rule>
         requires short { tag.place ≤ 65536 }
-        ensures taken { taken result (seen self.new) ≡ enter_of (room_of self.old) tag.entry.place (seen self.old) tag.entry.name.now }
+        ensures taken { ruled tag.entry.place result (seen self.new) ≡ enter_of (room_of self.old) tag.entry.place (seen self.old) tag.entry.name.now }
         ensures follows { Follows self.old self.new }
         ensures refused { OnErr result (SameSlots self.old self.new) }
         ensures opened { self.new.opened ≡ self.old.opened }
     {
         let found = self.find_name(tag.name);
-        self.hindrance(tag, found)?;
+        self.hindrance(tag.name, found)?;
         let depth = self.opened.len();
         let at = self.add_name(tag.name, found);
         self.nodes[usize::from(self.counts.nodes)] = Slot {
@@ -93,29 +91,28 @@ impl<'a> Draft<'_, '_, '_, '_, 'a> {
         Ok(())
     }
 
-    // Closes the innermost open tag, or refuses an end tag that has another name.
-    fn leave(&mut self, tag: Tag<'a>) -> Result<(), PlanFault>
-        requires short { tag.place ≤ 65536 }
-        ensures taken { taken result (seen self.new) ≡ leave_of tag.entry.place (seen self.old) tag.entry.name.now (seen self.old).opened }
+    // Closes the innermost open tag, which is to have the name of this end tag.
+    fn leave(&mut self, tag: Tag<'a>) -> Result<(), Rule>
+        ensures taken { ruled tag.entry.place result (seen self.new) ≡ leave_of tag.entry.place (seen self.old) tag.entry.name.now (seen self.old).opened }
         ensures follows { Follows self.old self.new }
         ensures same { SameSlots self.old self.new }
     {
         match self.opened.pop() {
             Some(top) if top.name == tag.name => Ok(()),
-            _ => Err(refused(Rule::WrongEnd, tag.place)),
+            _ => Err(Rule::WrongEnd),
         }
     }
 
-    // Takes the next piece of the text, or refuses it.
-    fn take(&mut self, piece: Piece<'a>) -> Result<(), PlanFault>
+    // Does what a piece of the text says, or answers the rule that it breaks.
+    fn step(&mut self, piece: Piece<'a>) -> Result<(), Rule>
         requires short { piece_place piece ≤ 65536 }
-        ensures taken { taken result (seen self.new) ≡ step_of (room_of self.old) (piece_place piece.entry) (seen self.old) (piece_of piece.entry) }
+        ensures taken { ruled (piece_place piece.entry) result (seen self.new) ≡ step_of (room_of self.old) (piece_place piece.entry) (seen self.old) (piece_of piece.entry) }
         ensures follows { Follows self.old self.new }
         ensures refused { OnErr result (SameSlots self.old self.new) }
     {
         match piece {
             Piece::Text { byte, .. } if passes(self.opened.len(), byte) => Ok(()),
-            Piece::Text { place, .. } => Err(refused(Rule::Outside, place)),
+            Piece::Text { .. } => Err(Rule::Outside),
             Piece::Tag(Token::Start(tag)) => {
                 self.enter(tag)?;
                 let _ = self.opened.push(tag);
@@ -123,8 +120,19 @@ impl<'a> Draft<'_, '_, '_, '_, 'a> {
             }
             Piece::Tag(Token::Empty(tag)) => self.enter(tag),
             Piece::Tag(Token::End(tag)) => self.leave(tag),
-            Piece::NoTag { place } => Err(refused(Rule::NoTag, place)),
+            Piece::NoTag { .. } => Err(Rule::NoTag),
         }
+    }
+
+    // Takes the next piece of the text, or refuses it at its place.
+    fn take(&mut self, piece: Piece<'a>) -> Result<(), PlanFault>
+        requires short { piece_place piece ≤ 65536 }
+        ensures taken { taken result (seen self.new) ≡ step_of (room_of self.old) (piece_place piece.entry) (seen self.old) (piece_of piece.entry) }
+        ensures follows { Follows self.old self.new }
+        ensures refused { OnErr result (SameSlots self.old self.new) }
+    {
+        let place = place_of(piece) as u32;
+        self.step(piece).map_err(|rule| PlanFault { rule, place })
     }
 
     // What is said where the text ends.
@@ -135,7 +143,10 @@ impl<'a> Draft<'_, '_, '_, '_, 'a> {
         if self.opened.len() == 0 && self.counts.nodes > 0 {
             Ok(self.counts)
         } else {
-            Err(refused(Rule::Unfinished, place))
+            Err(PlanFault {
+                rule: Rule::Unfinished,
+                place: place as u32,
+            })
         }
     }
 
