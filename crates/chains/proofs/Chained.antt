@@ -55,10 +55,10 @@ module _ (ks : List ℕ) (l : Links) (key : ℕ) (h : Chained ks l) (place : len
       (cases_lt k (length ks))
 
   -- the next place is hooked
-  pub chained_more : Chained (ks ++ key ∷ []) (hooked l (length ks) key)
-  chained_more =
+  pub chained_more : length ks < 65535 → Chained (ks ++ key ∷ []) (hooked l (length ks) key)
+  chained_more few =
       let long = length_push ks key in
-      let yes : inside l (length ks) key ≡ true = and_from _ _ (lt-ltb _ _ place) (lt-ltb _ _ low) in
+      let yes : inside l (length ks) key ≡ true = and_from _ _ (lt-ltb _ _ few) (and_from _ _ (lt-ltb _ _ place) (lt-ltb _ _ low)) in
       subst (Chained (ks ++ key ∷ [])) (sym (cond-true (inside l (length ks) key) _ l yes)) (record {
         tops = λ b. tops_more b ∙ ap (latest (ks ++ key ∷ []) b) (sym long);
         hooks = λ k m. hooks_more k (omega arith);

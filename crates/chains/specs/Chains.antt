@@ -20,7 +20,7 @@ unlinked n m = record { heads = replicate n None; nexts = replicate m None }
 
 -- there are such a place and such a key
 abbrev pub inside : Links → ℕ → ℕ → Bool
-inside l at key = nat_lt at (length l.nexts) && nat_lt key (length l.heads)
+inside l at key = nat_lt at 65535 && (nat_lt at (length l.nexts) && nat_lt key (length l.heads))
 
 abbrev pub hooked : Links → ℕ → ℕ → Links
 hooked l at key = cond (inside l at key) (record { heads = slice_set l.heads key (Some at); nexts = slice_set l.nexts at (slice_index_or l.heads key None) }) l

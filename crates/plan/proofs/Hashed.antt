@@ -68,7 +68,7 @@ module _ (ms : List (List ℕ)) (l : Links) (n : List ℕ) (h : Findable ms l) w
       let low = hash_low n in
       let place : at ≡ length (map hash_of ms) = omega arith in
       let keys : map hash_of ms ++ key ∷ [] ≡ map hash_of (ms ++ n ∷ []) = ap (λ (x : ℕ). map hash_of ms ++ x ∷ []) is ∙ sym (map_push hash_of ms n) in
-      let more = chained_more (map hash_of ms) l key h.chained (omega arith) (omega arith) in
+      let more = chained_more (map hash_of ms) l key h.chained (omega arith) (omega arith) (omega arith) in
       subst (λ (ns : List (List ℕ)). Findable ns (hooked l at key)) (sym (with_new n ms new)) (record {
         distinct = distinct_new n ms new h.distinct;
         chained =

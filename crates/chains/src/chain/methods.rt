@@ -19,22 +19,30 @@ impl<const KEYS: usize, const PLACES: usize> Chain<KEYS, PLACES> {
     pub fn first(&self, key: u16) -> Option<u16>
         ensures { result ≡ slice_index_or (links self.now).heads key None }
     {
-        *self.heads.get(usize::from(key))?
+        if key as usize >= KEYS {
+            return None;
+        }
+        self.heads[key as usize]
     }
 
     // The place before `at` that holds the same key.
     pub fn before(&self, at: u16) -> Option<u16>
         ensures { result ≡ slice_index_or (links self.now).nexts at None }
     {
-        *self.nexts.get(usize::from(at))?
+        if at as usize >= PLACES {
+            return None;
+        }
+        self.nexts[at as usize]
     }
 
     // Makes `at` the newest place that holds the key; a place or a key outside changes nothing.
     pub fn hook(&mut self, at: u16, key: u16)
         ensures { links self.new ≡ hooked (links self.old) at key }
     {
-        if usize::from(at) < PLACES && usize::from(key) < KEYS {
-            self.nexts[usize::from(at)] = self.heads[usize::from(key)].replace(at);
+        // A chain has at most 65,535 places.
+        if at == u16::MAX || at as usize >= PLACES || key as usize >= KEYS {
+            return;
         }
+        self.nexts[at as usize] = self.heads[key as usize].replace(at);
     }
 }

@@ -38,6 +38,7 @@ fn passes(depth: usize, b: u8) -> bool
     depth != 0 || is_white(b)
 }
 
+// A place is told to each call with its bound: a type for it would have to be made anew for each piece.
 impl<'a> Draft<'_, '_, '_, '_, 'a> {
     fn room(&self) -> Room
         ensures { result ≡ room_of self.now }
