@@ -1,5 +1,5 @@
 // Reading a question text into step slots.
-ghost use Rattle.std.specs.Prelude.{◌≡◌, ℕ, length};
+ghost use Rattle.std.specs.Prelude.{◌≡◌, ℕ, ◌≤◌, length};
 ghost use Rattle.names.specs.NameLists.{listed};
 ghost use Rattle.path.specs.Wordings.{axis_at};
 ghost use Rattle.names.specs.Told.{told};
@@ -10,6 +10,7 @@ use crate::fault::QuestionFault;
 use names::bytes::starts_name;
 use names::list::NameList;
 use names::scan::split_name;
+use tree::stack::Stack;
 use tree::step::{Axis, Step, Test};
 
 const MOST_BYTES: usize = 512;
@@ -53,6 +54,33 @@ fn split_step<'a>(text: &'a [u8], names: &NameList<'_, '_>) -> Option<(Step, &'a
     Some((Step { axis, test }, rest))
 }
 
+// Reads the steps of a text into the slots, as far as it is not refused, and answers their number.
+fn read_steps(
+    text: &[u8],
+    names: &NameList<'_, '_>,
+    slots: &mut [Step],
+) -> Result<usize, QuestionFault>
+    requires some { 1 ≤ length text.now }
+    requires short { length text.now ≤ 512 }
+    requires few { length slots.old ≤ 32 }
+    ensures read { Read (listed names.now) text.now slots.old result slots.new }
+    ensures spelled { Spelled (step_room (length slots.old)) text.now result }
+{
+    let mut read = Stack::new(slots);
+    let mut rest = text;
+    while !rest.is_empty() {
+        let place = (text.len() - rest.len()) as u16;
+        let Some((step, behind)) = split_step(rest, names) else {
+            return Err(QuestionFault::NoStep(place));
+        };
+        if read.push(step).is_err() {
+            return Err(QuestionFault::TooMany(place));
+        }
+        rest = behind;
+    }
+    Ok(read.len())
+}
+
 // Reads the steps of a question text into the slots, as far as it is not refused, and answers their number.
 pub fn read_question(
     text: &[u8],
@@ -66,20 +94,5 @@ pub fn read_question(
         return Err(QuestionFault::Length);
     }
     let most = steps.len().min(MOST_STEPS);
-    let mut rest = text;
-    // A stack over the slots would count the steps, but what lent slots hold is not told once their stack is gone.
-    let mut count = 0;
-    while !rest.is_empty() {
-        let place = (text.len() - rest.len()) as u16;
-        let Some((step, behind)) = split_step(rest, names) else {
-            return Err(QuestionFault::NoStep(place));
-        };
-        if count == most {
-            return Err(QuestionFault::TooMany(place));
-        }
-        steps[count] = step;
-        count += 1;
-        rest = behind;
-    }
-    Ok(count)
+    read_steps(text, names, &mut steps[..most])
 }

@@ -1,6 +1,8 @@
 -- Lists read from their end, as a stack reads its slots.
-use Rattle.std.proofs.Common.{◌≡◌, ℕ, ◌+◌, ◌-◌, ◌<◌, ◌≤◌, List, [], ◌∷◌, ◌++◌, reverse, length, get_or, take, drop, set, Ok, Err, Result, sym, ap, ◌∙◌, arith}
+use Rattle.std.proofs.Common.{◌≡◌, ℕ, true, false, refl, ◌+◌, ◌-◌, ◌<◌, ◌≤◌, List, [], ◌∷◌, ◌++◌, reverse, length, get_or, take, drop, set, Ok, Err, Result, sym, ap, ◌∙◌, arith}
 use Rattle.std.proofs.lemmas.List.{length-set, reverse-append, length-reverse, length-drop, length-take-le, take-append-drop, take-take, take_more, take_more_set, drop_at}
+use Rattle.std.proofs.lemmas.Bool.{both_ways}
+use Rattle.std.specs.Result.{is_err}
 use Rattle.tree.specs.declared.stack.Stack.{Stack}
 use Rattle.tree.specs.Stacks.{items, lent, Pushed, Grown}
 
@@ -41,3 +43,12 @@ pushed s x (Err y) t h l = absurd (omega (arith, h.room))
 pub pushed_lent : {T : Type 0} (s : Stack T) (x : T) (r : Result (Unit {0}) T) (t : Stack T) → Pushed s x r t → length (lent t) ≡ length (lent s)
 pushed_lent s x (Ok u) t h = ap length h.written ∙ length-set (lent s) (length (items s)) x
 pushed_lent s x (Err y) t h = ap length h.written
+
+-- what an answer of a push tells
+pub push_full : {T : Type 0} (s : Stack T) (x : T) (r : Result (Unit {0}) T) (t : Stack T) → Pushed s x r t → true ≡ is_err r → (length (items s) ≡ length (lent s)) × (lent t ≡ lent s)
+push_full s x (Ok u) t h e = absurd (both_ways true e refl)
+push_full s x (Err y) t h e = (h.room, h.written)
+
+pub push_grown : {T : Type 0} (s : Stack T) (x : T) (r : Result (Unit {0}) T) (t : Stack T) → Pushed s x r t → false ≡ is_err r → Grown s x t
+push_grown s x (Ok u) t h e = h
+push_grown s x (Err y) t h e = absurd (both_ways true (sym e) refl)

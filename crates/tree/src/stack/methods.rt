@@ -8,6 +8,7 @@ impl<'a, T: Copy> Stack<'a, T> {
     pub fn new(slots: &'a mut [T]) -> Stack<'a, T>
         ensures items { items result ≡ [] }
         ensures slots { lent result ≡ slots.old }
+        ensures same_reference { result.slots.ghost_name ≡ slots.entry.ghost_name }
     {
         Stack { slots, len: 0 }
     }
@@ -21,7 +22,8 @@ impl<'a, T: Copy> Stack<'a, T> {
 
     // Puts an item on top, or hands it back where the slots are full.
     pub fn push(&mut self, item: T) -> Result<(), T>
-        ensures { Pushed self.old item result self.new }
+        ensures pushed { Pushed self.old item result self.new }
+        ensures same_reference { self.new.slots.ghost_name ≡ self.old.slots.ghost_name }
     {
         if self.len == self.slots.len() {
             return Err(item);
@@ -34,6 +36,7 @@ impl<'a, T: Copy> Stack<'a, T> {
     pub fn pop(&mut self) -> Option<T>
         ensures items { Popped (items self.old) result (items self.new) }
         ensures slots { lent self.new ≡ lent self.old }
+        ensures same_reference { self.new.slots.ghost_name ≡ self.old.slots.ghost_name }
     {
         if self.len == 0 {
             return None;
@@ -52,6 +55,7 @@ impl<'a, T: Copy> Stack<'a, T> {
     pub fn cut(&mut self, height: usize)
         ensures items { items self.new ≡ drop (length (items self.old) - height) (items self.old) }
         ensures slots { lent self.new ≡ lent self.old }
+        ensures same_reference { self.new.slots.ghost_name ≡ self.old.slots.ghost_name }
     {
         if height < self.len {
             self.len = height;

@@ -9,6 +9,7 @@ returns-then-height-self g c =
     record {
       items = items_cut xs c.args.height n (omega arith) (omega arith) ∙ ap (λ (k : ℕ). drop (k - c.args.height) (reverse (take n xs))) (sym (length_items xs n (omega arith)));
       slots = refl;
+      same_reference = refl;
     }
 
 pub returns-else-height-self : goal.returns-else-height-self
@@ -16,4 +17,4 @@ returns-else-height-self g c =
     let xs = c.args.self.now.slots.now in
     let n = c.args.self.now.len in
     let none : length (reverse (take n xs)) - c.args.height ≡ 0 = omega (arith, length_items xs n (omega arith)) in
-    record { items = ap (λ (k : ℕ). drop k (reverse (take n xs))) (sym none); slots = refl }
+    record { items = ap (λ (k : ℕ). drop k (reverse (take n xs))) (sym none); slots = refl; same_reference = refl }

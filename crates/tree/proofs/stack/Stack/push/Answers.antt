@@ -2,16 +2,16 @@ use Rattle.std.proofs.Common.{ℕ, set, sym, refl, ap, ◌∙◌, arith}
 use Rattle.tree.proofs.Stacks.{length_items, items_set}
 use Rattle.tree.proofs.stack.Stack.push.Goals as goal
 
-pub returns-then-self : goal.returns-then-self
-returns-then-self g c = record {
+pub returns-then-self-clause-pushed : goal.returns-then-self-clause-pushed
+returns-then-self-clause-pushed g c = record {
   room = length_items c.args.self.now.slots.now c.args.self.now.len (omega arith) ∙ c.if-self.true;
   back = refl;
   after = refl;
   written = refl;
 }
 
-pub returns : goal.returns
-returns g c =
+pub returns-clause-pushed : goal.returns-clause-pushed
+returns-clause-pushed g c =
     let n = c.args.self.now.len in
     let xs = c.args.self.now.slots.now in
     record {
