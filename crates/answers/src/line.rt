@@ -5,17 +5,14 @@ ghost use Rattle.walk.specs.Walks.{Question, origins};
 ghost use Rattle.answers.specs.Lines.{answer_line, nodes_line, refused_line, plan_refused_line};
 
 use names::list::NameList;
-use path::question::read_question;
+use path::question::{MOST_STEPS, read_question};
 use std::alloc::{AllocError, Global};
 use std::fmt::Write;
 use tree::refusal::Refusal;
 use tree::step::{Axis, Step, Test};
+use tree::table::methods::MOST_NODES;
 use tree::trees::Tree;
 use walk::walk;
-
-const MOST_STEPS: usize = 32;
-
-const MOST_NODES: usize = 4096;
 
 const ANY_CHILD: Step = Step {
     axis: Axis::Child,

@@ -15,7 +15,7 @@ use tree::step::{Axis, Step, Test};
 
 const MOST_BYTES: usize = 512;
 
-const MOST_STEPS: usize = 32;
+pub const MOST_STEPS: usize = 32;
 
 // A label that no node bears.
 const NO_LABEL: u16 = 0;

@@ -5,12 +5,10 @@ use answers::line::plan_refused;
 use answers::opened::Plan;
 use files::read_or_empty;
 use image_lines::text::round_trip;
+use names::list::methods::MOST_NAMES;
 use std::io;
 use tree::slot::Slot;
-
-const MOST_NODES: usize = 4096;
-
-const MOST_NAMES: usize = 512;
+use tree::table::methods::MOST_NODES;
 
 fn main(rt: HostRuntime) -> io::Result<()> {
     let heap = rt.alloc();

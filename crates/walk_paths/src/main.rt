@@ -4,13 +4,11 @@
 use answers::line::plan_refused;
 use answers::opened::Plan;
 use files::read_or_empty;
+use names::list::methods::MOST_NAMES;
 use std::io;
 use std::io::{BufRead, BufReader};
 use tree::slot::Slot;
-
-const MOST_NODES: usize = 4096;
-
-const MOST_NAMES: usize = 512;
+use tree::table::methods::MOST_NODES;
 
 // Each answer is out before the next question is waited for.
 fn answer_all(rt: &HostRuntime, plan: &Plan<'_, '_, '_>) -> io::Result<()> {

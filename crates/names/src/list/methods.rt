@@ -9,9 +9,10 @@ use crate::bytes::starts_name;
 use crate::class::{NameByte, past};
 use crate::find::find;
 
-const MOST_NAMES: usize = 512;
+pub const MOST_NAMES: usize = 512;
 
-const MOST_BYTES: usize = 64;
+// How long a name can be.
+pub const MOST_BYTES: usize = 64;
 
 fn is_name(name: &[u8]) -> bool
     ensures { result ≡ word name.now }

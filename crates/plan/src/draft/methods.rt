@@ -11,15 +11,11 @@ use super::{Draft, MOST_DEPTH};
 use crate::counts::{Counts, Room};
 use crate::fault::{PlanFault, Rule};
 use names::bytes::is_white;
+use names::list::methods::{MOST_BYTES, MOST_NAMES};
 use tags::reader::Reader;
 use tags::token::{Piece, Tag, Token};
 use tree::slot::Slot;
-
-const MOST_NODES: usize = 4096;
-
-const MOST_NAMES: usize = 512;
-
-const LONGEST_NAME: usize = 64;
+use tree::table::methods::MOST_NODES;
 
 // Where the piece begins.
 fn place_of(piece: Piece<'_>) -> usize
@@ -58,7 +54,7 @@ impl<'a> Draft<'_, '_, '_, '_, 'a> {
         let room = self.room();
         if depth == 0 && self.counts.nodes > 0 {
             Err(Rule::Outside)
-        } else if name.len() > LONGEST_NAME {
+        } else if name.len() > MOST_BYTES {
             Err(Rule::LongName)
         } else if depth >= MOST_DEPTH {
             Err(Rule::TooDeep)

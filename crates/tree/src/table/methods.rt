@@ -11,9 +11,9 @@ use crate::node::Node;
 use crate::slot::Slot;
 use crate::trees::Tree;
 
-const MOST_NODES: usize = 4096;
+pub const MOST_NODES: usize = 4096;
 
-const MOST_DEPTH: u16 = 64;
+pub const MOST_DEPTH: u16 = 64;
 
 // Whether a node with this label and depth may come after one of depth `before`, or first where that is 0.
 pub fn may_follow(before: u16, label: u16, depth: u16) -> bool
