@@ -1,7 +1,7 @@
 // Why an image is not opened, and why none is written.
 ghost use Rattle.stored.specs.Faults.{number, place, write_number, write_place};
 
-use tree::refusal::Refusal;
+use tree::refusal::{Refusal, Told};
 
 // The number in a case is the byte of the image at which the first wrong field begins.
 #[derive(Clone, Copy, Debug, PartialEq, Drop)]
@@ -27,22 +27,14 @@ impl Refusal for ImageFault {
 
     ghost at = { place };
 
-    fn number(&self) -> u8 {
-        match *self {
-            ImageFault::Length => 11,
-            ImageFault::Version => 12,
-            ImageFault::Name(_) => 13,
-            ImageFault::Node(_) => 14,
-        }
-    }
-
-    fn place(&self) -> u32 {
-        match *self {
-            ImageFault::Length => 0,
-            ImageFault::Version => 0,
-            ImageFault::Name(place) => place,
-            ImageFault::Node(place) => place,
-        }
+    fn told(&self) -> Told {
+        let (number, place) = match *self {
+            ImageFault::Length => (11, 0),
+            ImageFault::Version => (12, 0),
+            ImageFault::Name(place) => (13, place),
+            ImageFault::Node(place) => (14, place),
+        };
+        Told { number, place }
     }
 }
 
@@ -51,17 +43,11 @@ impl Refusal for WriteFault {
 
     ghost at = { write_place };
 
-    fn number(&self) -> u8 {
-        match *self {
-            WriteFault::Short(_) => 15,
-            WriteFault::Nameless(_) => 16,
-        }
-    }
-
-    fn place(&self) -> u32 {
-        match *self {
-            WriteFault::Short(needed) => needed,
-            WriteFault::Nameless(node) => node as u32,
-        }
+    fn told(&self) -> Told {
+        let (number, place) = match *self {
+            WriteFault::Short(needed) => (15, needed),
+            WriteFault::Nameless(node) => (16, node as u32),
+        };
+        Told { number, place }
     }
 }
