@@ -5,7 +5,7 @@ use Rattle.std.proofs.lemmas.List.{append-nil, append_assoc, length-append, leng
 use Rattle.std.proofs.lemmas.Bool.{cond-true, le-leb, leb-true, and_parts, and_from}
 use Rattle.names.specs.Lists.{before, good_beside, ShortName, Distinct}
 use Rattle.names.proofs.Finds.{before_le}
-use Rattle.names.proofs.Found.{none_some, cond_some, some_same}
+use Rattle.names.proofs.Found.{cond_some, some_same}
 use Rattle.names.proofs.Names.{good_to, good_from}
 use Rattle.names.proofs.Firsts.{Good, good_new, distinct_before}
 use Rattle.stored.specs.Images.{name_field}
@@ -34,12 +34,13 @@ names_read done (m ∷ ms) r a d =
     ∙ ap (λ (z : List (List ℕ)). Ok (z, r)) same
 
 pub field_is : (ms : List (List ℕ)) (s m r : List ℕ) → name_field_at ms s ≡ Some (m, r) → (s ≡ name_field m ++ r) × ShortName m × (length ms ≤ before m ms)
-field_is ms [] m r e = absurd (none_some (m, r) e)
+field_is ms [] m r e = cc
 field_is ms (k ∷ s) m r e =
     let t = cond_some _ _ _ e in
     let p = and_parts (leb k (length s)) _ t.0 in
-    let front : take k s ≡ m = ap (λ q. q.0) (some_same (take k s, drop k s) (m, r) t.1) in
-    let back : drop k s ≡ r = ap (λ q. q.1) (some_same (take k s, drop k s) (m, r) t.1) in
+    let same = some_same (take k s, drop k s) (m, r) t.1 in
+    let front : take k s ≡ m = ap (λ q. q.0) same in
+    let back : drop k s ≡ r = ap (λ q. q.1) same in
     let g = good_to (take k s) ms p.1 in
     let long : k ≡ length m = sym (length-take-le k s (leb-true k (length s) p.0)) ∙ ap length front in
     let whole : s ≡ m ++ r = sym (take-append-drop k s) ∙ ap₂ (λ (x : List ℕ) (y : List ℕ). x ++ y) front back in
@@ -48,11 +49,8 @@ field_is ms (k ∷ s) m r e =
 pub ok_same : {A B : Type 0} (x y : A) → ◌≡◌ {A = Result A B} (Ok x) (Ok y) → x ≡ y
 ok_same x y e = cc
 
-pub err_same : {A B : Type 0} (x y : B) → ◌≡◌ {A = Result A B} (Err x) (Err y) → x ≡ y
-err_same x y e = cc
-
 pub err_ok : {A B : Type 0} (x : B) (y : A) → ◌≡◌ {A = Result A B} (Err x) (Ok y) → ⊥
-err_ok x y e = let z : ◌≡◌ {A = ℕ} 0 1 = cc in omega arith
+err_ok x y e = cc
 
 -- k names were read behind the names `done`, and r follows them in s
 pub record NamesRead (k : ℕ) (done : List (List ℕ)) (s : List ℕ) (ms : List (List ℕ)) (r : List ℕ) : Type 0 where
@@ -70,7 +68,7 @@ names_are (suc k) done s ms r g e = go (name_field_at done s) refl e (names_are 
   where
     go : (o : Option (List ℕ × List ℕ)) → name_field_at done s ≡ o → after_field k done s o ≡ Ok (ms, r)
         → ((d : List (List ℕ)) (t : List ℕ) (ns : List (List ℕ)) (u : List ℕ) → Good d → names_at k d t ≡ Ok (ns, u) → NamesRead k d t ns u) → NamesRead (suc k) done s ms r
-    go None i h ih = absurd (err_ok s (ms, r) h)
+    go None i h ih = cc
     go (Some p) i h ih =
         let f = field_is done s p.0 p.1 i in
         let n = ih (done ++ p.0 ∷ []) p.1 ms r (good_new p.0 done f.1 f.2 g) h in

@@ -2,13 +2,13 @@
 use Rattle.std.proofs.Common.{◌≡◌, ℕ, zero, suc, ◌+◌, ◌*◌, ◌/◌, ◌%◌, ◌≤◌, max, Bool, true, false, cond, ◌&&◌, ltb, leb, List, [], ◌∷◌, ◌++◌, length, Some, None, Ok, Err, Option, Result, sym, refl, ap, ◌∙◌, subst, ap₂, arith}
 use Rattle.std.specs.List.{flat_map, AllByRecursion}
 use Rattle.std.proofs.lemmas.Bool.{cond-true, lt-ltb, ltb-true, le-leb, leb-true, and_parts, and_from}
-use Rattle.names.proofs.Found.{none_some, cond_some, some_same}
+use Rattle.names.proofs.Found.{cond_some, some_same}
+use Rattle.stored.proofs.NameFields.{ok_same}
 use Rattle.tree.specs.Nodes.{Node, shape, chain}
 use Rattle.stored.specs.Bytes.{two}
 use Rattle.stored.specs.Images.{node_field}
 use Rattle.stored.specs.Openings.{in_turn, node_field_at, nodes_at, nodes_in}
 use Rattle.stored.proofs.Bytes.{two_written}
-use Rattle.stored.proofs.NameFields.{ok_same, err_ok}
 
 -- each node may stand where it does, behind the greatest label g and the depth d, where there are k names
 abbrev pub Turn : ℕ → ℕ → ℕ → List Node → Type 0
@@ -57,9 +57,9 @@ nodes_back i (n ∷ ns) f a =
     ap₂ (λ (x : Node) (xs : List Node). x ∷ xs) here (nodes_back (suc i) ns f.1 a.1)
 
 pub field_is : (s : List ℕ) (l e : ℕ) (r : List ℕ) → node_field_at s ≡ Some ((l, e), r) → s ≡ two l ++ e ∷ r
-field_is [] l e r h = absurd (none_some ((l, e), r) h)
-field_is (a ∷ []) l e r h = absurd (none_some ((l, e), r) h)
-field_is (a ∷ b ∷ []) l e r h = absurd (none_some ((l, e), r) h)
+field_is [] l e r h = cc
+field_is (a ∷ []) l e r h = cc
+field_is (a ∷ b ∷ []) l e r h = cc
 field_is (a ∷ b ∷ f ∷ s) l e r h =
     let t = cond_some _ _ _ h in
     let p = and_parts (ltb a 256) (ltb b 256) t.0 in
@@ -78,7 +78,7 @@ pub record NodesRead (k n g d i : ℕ) (s : List ℕ) (h : ℕ) (r : List ℕ) :
 
 step_ok : (k n g d : ℕ) (s : List ℕ) (b : Bool) (l e : ℕ) (r : List ℕ) (p : ℕ × List ℕ) → step k n g d s b l e r ≡ Ok p → (b ≡ true) × (nodes_at k n (max g l) e r ≡ Ok p)
 step_ok k n g d s true l e r p h = (refl, h)
-step_ok k n g d s false l e r p h = absurd (err_ok s p h)
+step_ok k n g d s false l e r p h = cc
 
 pub nodes_are : (k n g d i : ℕ) (s : List ℕ) (h : ℕ) (r : List ℕ) → nodes_at k n g d s ≡ Ok (h, r) → NodesRead k n g d i s h r
 nodes_are k zero g d i s h r e =
@@ -88,7 +88,7 @@ nodes_are k (suc n) g d i s h r e = go (node_field_at s) refl e (nodes_are k n)
   where
     go : (o : Option ((ℕ × ℕ) × List ℕ)) → node_field_at s ≡ o → after_field k n g d s o ≡ Ok (h, r)
         → ((g d i : ℕ) (s : List ℕ) (h : ℕ) (r : List ℕ) → nodes_at k n g d s ≡ Ok (h, r) → NodesRead k n g d i s h r) → NodesRead k (suc n) g d i s h r
-    go None q f ih = absurd (err_ok s (h, r) f)
+    go None q f ih = cc
     go (Some p) q f ih =
         let t = step_ok k n g d s (in_turn k g p.0.0 && shape d p.0.0 p.0.1) p.0.0 p.0.1 p.1 (h, r) f in
         let b = and_parts (in_turn k g p.0.0) (shape d p.0.0 p.0.1) t.0 in

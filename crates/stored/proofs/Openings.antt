@@ -5,7 +5,7 @@ use Rattle.std.specs.List.{flat_map, AllByRecursion}
 use Rattle.std.proofs.lemmas.List.{append-nil, length-append, nil_from_length, take_all}
 use Rattle.std.proofs.lemmas.Bool.{cond-true, le-leb, leb-true, eq-eqb, eqb-true, and_parts, and_from}
 use Rattle.names.specs.Lists.{ShortName}
-use Rattle.names.proofs.Found.{none_some, cond_some, some_same}
+use Rattle.names.proofs.Found.{cond_some}
 use Rattle.names.proofs.Firsts.{Good, good_none}
 use Rattle.tree.specs.Nodes.{Node as TreeNode, Laws, nowhere, node_limit}
 use Rattle.tree.specs.Laws.{laws_chain}
@@ -17,7 +17,7 @@ use Rattle.stored.specs.Images.{name_field, node_field, body, image}
 use Rattle.stored.specs.Openings.{counted, count_at, names_at, nodes_at, nodes_in, all_names_at, ended, all_nodes_at, with_nodes, with_names, opened_body, sized, body_at, opened}
 use Rattle.stored.specs.Laws.{ImagesOpen, OpenedAreImages}
 use Rattle.stored.proofs.Bytes.{two_read, two_is, four_read, four_is}
-use Rattle.stored.proofs.NameFields.{names_read, names_are, ok_same, err_ok}
+use Rattle.stored.proofs.NameFields.{names_read, names_are}
 use Rattle.stored.proofs.NodeFields.{Turn, From, greatest, nodes_read, nodes_back, nodes_are, turn_labels, length_fields}
 use Rattle.stored.proofs.Turns.{Deep, length_by, from_by, turn_by, greatest_by, known_here, plan_back, grown_turn, nodes_turn}
 use Rattle.stored.proofs.Storable.{storable, chain_deep, turn_deep, turn_laws}
@@ -29,22 +29,22 @@ pub count_is : (most : ℕ) (s : List ℕ) (n : ℕ) (r : List ℕ) → count_at
 count_is most s n r e = go (two_at s) refl e
   where
     go : (o : Option (ℕ × List ℕ)) → two_at s ≡ o → counted most o ≡ Some (n, r) → (s ≡ two n ++ r) × (1 ≤ n) × (n ≤ most)
-    go None i h = absurd (none_some (n, r) h)
+    go None i h = cc
     go (Some p) i h =
         let t = cond_some _ _ _ h in
         let b = and_parts (leb 1 p.0) (leb p.0 most) t.0 in
-        let same : p ≡ (n, r) = some_same p (n, r) t.1 in
+        let same : p ≡ (n, r) = cc in
         let here : two_at s ≡ Some (n, r) = i ∙ ap (λ (q : ℕ × List ℕ). Some q) same in
         ((two_is s n r here).0, subst (λ (k : ℕ). 1 ≤ k) (ap (λ q. q.0) same) (leb-true 1 p.0 b.0), subst (λ (k : ℕ). k ≤ most) (ap (λ q. q.0) same) (leb-true p.0 most b.1))
 
 -- what all names and all nodes are, by the count before them
-abbrev pub names_behind : List ℕ → Option (ℕ × List ℕ) → Result (List (List ℕ) × List ℕ) (List ℕ)
+abbrev names_behind : List ℕ → Option (ℕ × List ℕ) → Result (List (List ℕ) × List ℕ) (List ℕ)
 names_behind s o = elim o as (λ _. Result (List (List ℕ) × List ℕ) (List ℕ)) [ None ↦ Err s | Some p ↦ names_at p.0 [] p.1 ]
 
-abbrev pub nodes_behind : ℕ → List ℕ → Option (ℕ × List ℕ) → Result (List TreeNode) (List ℕ)
+abbrev nodes_behind : ℕ → List ℕ → Option (ℕ × List ℕ) → Result (List TreeNode) (List ℕ)
 nodes_behind k s o = elim o as (λ _. Result (List TreeNode) (List ℕ)) [ None ↦ Err s | Some p ↦ ended k p.1 (nodes_at k p.0 0 0 p.1) ]
 
-abbrev pub body_behind : Result (List ℕ) ImageFault → Result Stored ImageFault
+abbrev body_behind : Result (List ℕ) ImageFault → Result Stored ImageFault
 body_behind r = elim r as (λ _. Result Stored ImageFault) [ Err e ↦ Err e | Ok b ↦ opened_body b ]
 
 pub length_names : (ms : List (List ℕ)) → AllByRecursion ShortName ms → length (flat_map name_field ms) ≤ 65 * length ms
@@ -108,14 +108,14 @@ images_open ps s = image_opens ps s
 
 -- what was read where all nodes were
 ended_ok : (k : ℕ) (s : List ℕ) (r : Result (ℕ × List ℕ) (List ℕ)) (ns : List TreeNode) → ended k s r ≡ Ok ns → (r ≡ Ok (k, [])) × (nodes_in 1 s ≡ ns)
-ended_ok k s (Err at) ns h = absurd (err_ok at ns h)
+ended_ok k s (Err at) ns h = cc
 ended_ok k s (Ok p) ns h = go (eqb (length p.1) 0 && eqb p.0 k) refl h
   where
     go : (b : Bool) → (eqb (length p.1) 0 && eqb p.0 k) ≡ b → cond b (Ok (nodes_in 1 s)) (Err p.1) ≡ Ok ns → (◌≡◌ {A = Result (ℕ × List ℕ) (List ℕ)} (Ok p) (Ok (k, []))) × (nodes_in 1 s ≡ ns)
-    go false e q = absurd (err_ok p.1 ns q)
+    go false e q = cc
     go true e q =
         let t = and_parts (eqb (length p.1) 0) (eqb p.0 k) e in
-        (ap₂ (λ (x : ℕ) (y : List ℕ). Ok (x, y)) (eqb-true p.0 k t.1) (nil_from_length p.1 (eqb-true (length p.1) 0 t.0)), ok_same (nodes_in 1 s) ns q)
+        (ap₂ (λ (x : ℕ) (y : List ℕ). Ok (x, y)) (eqb-true p.0 k t.1) (nil_from_length p.1 (eqb-true (length p.1) 0 t.0)), cc)
 
 -- the fields of nodes that are all there
 pub record AllNodes (k : ℕ) (s : List ℕ) (ns : List TreeNode) : Type 0 where
@@ -130,7 +130,7 @@ all_nodes_are : (k : ℕ) (s : List ℕ) (ns : List TreeNode) → all_nodes_at k
 all_nodes_are k s ns e = go (count_at 4096 s) refl e
   where
     go : (o : Option (ℕ × List ℕ)) → count_at 4096 s ≡ o → nodes_behind k s o ≡ Ok ns → AllNodes k s ns
-    go None i h = absurd (err_ok s ns h)
+    go None i h = cc
     go (Some p) i h =
         let c = count_is 4096 s p.0 p.1 i in
         let t = ended_ok k p.1 (nodes_at k p.0 0 0 p.1) ns h in
@@ -150,21 +150,21 @@ pub all_nodes_laws : (k : ℕ) (s : List ℕ) (ns : List TreeNode) → all_nodes
 all_nodes_laws k s ns e = let n = all_nodes_are k s ns e in turn_laws k 0 ns n.turn n.from n.some n.most
 
 sized_ok : (o : Option (ℕ × List ℕ)) (b : List ℕ) → sized o ≡ Ok b → o ≡ Some (length b, b)
-sized_ok None b h = absurd (err_ok Length b h)
+sized_ok None b h = cc
 sized_ok (Some p) b h = go (eqb p.0 (length p.1)) refl h
   where
     go : (c : Bool) → eqb p.0 (length p.1) ≡ c → cond c (Ok p.1) (Err Length) ≡ Ok b → Some p ≡ Some (length b, b)
-    go false e q = absurd (err_ok Length b q)
+    go false e q = cc
     go true e q =
-        let same = ok_same p.1 b q in
+        let same : p.1 ≡ b = cc in
         ap₂ (λ (x : ℕ) (y : List ℕ). Some (x, y)) (eqb-true p.0 (length p.1) e ∙ ap length same) same
 
 body_is : (s b : List ℕ) → body_at s ≡ Ok b → s ≡ 1 ∷ (four (length b) ++ b)
-body_is [] b h = absurd (err_ok Length b h)
+body_is [] b h = cc
 body_is (v ∷ s) b h = go (eqb v 1) refl h
   where
     go : (c : Bool) → eqb v 1 ≡ c → cond c (sized (four_at s)) (Err Version) ≡ Ok b → v ∷ s ≡ 1 ∷ (four (length b) ++ b)
-    go false e q = absurd (err_ok Version b q)
+    go false e q = cc
     go true e q = ap₂ (λ (x : ℕ) (y : List ℕ). x ∷ y) (eqb-true v 1 e) (four_is s (length b) b (sized_ok (four_at s) b q))
 
 -- the fields of names that are all there
@@ -177,7 +177,7 @@ all_names_are : (s : List ℕ) (ms : List (List ℕ)) (r : List ℕ) → all_nam
 all_names_are s ms r e = go (count_at 512 s) refl e
   where
     go : (o : Option (ℕ × List ℕ)) → count_at 512 s ≡ o → names_behind s o ≡ Ok (ms, r) → AllNames s ms r
-    go None i h = absurd (err_ok s (ms, r) h)
+    go None i h = cc
     go (Some p) i h =
         let c = count_is 512 s p.0 p.1 i in
         let n = names_are p.0 [] p.1 ms r good_none h in
@@ -217,19 +217,19 @@ abbrev ImageOf : List ℕ → Stored → Type 0
 ImageOf s st = (ps : List Named) × Storable ps × (s ≡ image ps) × (st ≡ stored ps)
 
 nodes_opened : (s b : List ℕ) (st : Stored) (p : List (List ℕ) × List ℕ) (r : Result (List TreeNode) (List ℕ)) → s ≡ 1 ∷ (four (length b) ++ b) → AllNames b p.0 p.1 → all_nodes_at (length p.0) p.1 ≡ r → with_nodes b p.0 r ≡ Ok st → ImageOf s st
-nodes_opened s b st p (Err at) e a f h = absurd (err_ok _ st h)
+nodes_opened s b st p (Err at) e a f h = cc
 nodes_opened s b st p (Ok ns) e a f h =
     let n = all_nodes_are (length p.0) p.1 ns f in
-    let same = ok_same (record { names = p.0; nodes = ns }) st h in
+    let same : record { names = p.0; nodes = ns } ≡ st = cc in
     let whole = read_body p.0 ns p.1 b a n in
     (plan_of p.0 ns, read_storable p.0 ns p.1 b a n, e ∙ ap (λ (z : List ℕ). 1 ∷ (four (length z) ++ z)) whole, sym same ∙ same_stored p.0 ns p.1 b a n)
 
 names_opened : (s b : List ℕ) (st : Stored) (r : Result (List (List ℕ) × List ℕ) (List ℕ)) → s ≡ 1 ∷ (four (length b) ++ b) → all_names_at b ≡ r → with_names b r ≡ Ok st → ImageOf s st
-names_opened s b st (Err at) e f h = absurd (err_ok _ st h)
+names_opened s b st (Err at) e f h = cc
 names_opened s b st (Ok p) e f h = nodes_opened s b st p (all_nodes_at (length p.0) p.1) e (all_names_are b p.0 p.1 f) refl h
 
 body_opened : (s : List ℕ) (st : Stored) (r : Result (List ℕ) ImageFault) → body_at s ≡ r → body_behind r ≡ Ok st → ImageOf s st
-body_opened s st (Err e) i h = absurd (err_ok e st h)
+body_opened s st (Err e) i h = cc
 body_opened s st (Ok b) i h = names_opened s b st (all_names_at b) (body_is s b i) refl h
 
 pub opened_are_images : OpenedAreImages

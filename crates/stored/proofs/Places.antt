@@ -1,11 +1,11 @@
 -- How far into an image its fields lie.
-use Rattle.std.proofs.Common.{◌≡◌, ℕ, zero, suc, ◌+◌, ◌*◌, ◌≤◌, max, Bool, true, false, cond, ◌&&◌, eqb, List, [], ◌∷◌, ◌++◌, length, Some, None, Ok, Err, Option, Result, sym, refl, ap, ◌∙◌, subst, arith}
+use Rattle.std.proofs.Common.{◌≡◌, ℕ, zero, suc, ◌+◌, ◌*◌, ◌≤◌, max, Bool, true, false, cond, ◌&&◌, eqb, List, [], ◌∷◌, ◌++◌, length, Some, None, Ok, Err, Option, Result, refl, ap, ◌∙◌, subst, arith}
 use Rattle.std.proofs.lemmas.List.{length-append}
 use Rattle.tree.specs.Nodes.{Node, shape}
 use Rattle.stored.specs.Images.{name_field}
 use Rattle.stored.specs.Bytes.{two}
 use Rattle.stored.specs.Openings.{count_at, name_field_at, names_at, in_turn, node_field_at, nodes_at, nodes_in, ended, all_nodes_at}
-use Rattle.stored.proofs.NameFields.{field_is, err_same, err_ok}
+use Rattle.stored.proofs.NameFields.{field_is}
 use Rattle.stored.proofs.NodeFields.{field_is as node-is}
 use Rattle.stored.proofs.Openings.{count_is}
 
@@ -20,7 +20,7 @@ near_here w s = record { inside = omega arith; near = omega arith }
 pub near_more : (v w : ℕ) (s t at : List ℕ) → Near v s t → Near w t at → Near (v + w) s at
 near_more v w s t at p q = record { inside = omega (arith, p.inside, q.inside); near = omega (arith, p.near, q.near) }
 
-near_less : (v w : ℕ) (s at : List ℕ) → v ≤ w → Near v s at → Near w s at
+pub near_less : (v w : ℕ) (s at : List ℕ) → v ≤ w → Near v s at → Near w s at
 near_less v w s at l p = record { inside = p.inside; near = omega (arith, p.near) }
 
 pub count_near : (most : ℕ) (s : List ℕ) (n : ℕ) (r : List ℕ) → count_at most s ≡ Some (n, r) → Near 2 s r
@@ -60,19 +60,19 @@ nodes_near k (suc n) g d s = go (node_field_at s) refl (nodes_near k n)
         [ true ↦ near_less (3 + 3 * n) (3 * suc n) s _ (omega arith) (near_more 3 (3 * n) s p.1 _ first (ih (max g p.0.0) p.0.1 p.1)) | false ↦ near_here (3 * suc n) s ]
 
 ended_near : (w k : ℕ) (s : List ℕ) (r : Result (ℕ × List ℕ) (List ℕ)) (at : List ℕ) → Near w s (end_of r) → ended k s r ≡ Err at → Near w s at
-ended_near w k s (Err x) at h e = subst (Near w s) (err_same x at e) h
+ended_near w k s (Err x) at h e = subst (Near w s) (cc) h
 ended_near w k s (Ok p) at h e = go (eqb (length p.1) 0 && eqb p.0 k) e
   where
     go : (b : Bool) → cond b (Ok (nodes_in 1 s)) (Err p.1) ≡ Err at → Near w s at
-    go true q = absurd (err_ok at (nodes_in 1 s) (sym q))
-    go false q = subst (Near w s) (err_same p.1 at q) h
+    go true q = cc
+    go false q = subst (Near w s) (cc) h
 
 -- where a wrong node field begins
 pub all_nodes_near : (k : ℕ) (s at : List ℕ) → all_nodes_at k s ≡ Err at → Near 12290 s at
 all_nodes_near k s at e = go (count_at 4096 s) refl e
   where
     go : (o : Option (ℕ × List ℕ)) → count_at 4096 s ≡ o → elim o as (λ _. Result (List Node) (List ℕ)) [ None ↦ Err s | Some p ↦ ended k p.1 (nodes_at k p.0 0 0 p.1) ] ≡ Err at → Near 12290 s at
-    go None i h = subst (Near 12290 s) (err_same s at h) (near_here 12290 s)
+    go None i h = subst (Near 12290 s) (cc) (near_here 12290 s)
     go (Some p) i h =
         let c = count_is 4096 s p.0 p.1 i in
         let n = ended_near (3 * p.0) k p.1 (nodes_at k p.0 0 0 p.1) at (nodes_near k p.0 0 0 p.1) h in

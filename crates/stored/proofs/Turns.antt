@@ -52,9 +52,6 @@ module _ (seen : List (List ℕ)) (p : Named) (ps : List Named) where
   pub number_here : number_of p.name final ≡ suc (before p.name seen)
   number_here = sym (number_some p.name final known_here) ∙ add-one (before p.name final) ∙ ap suc same_here
 
-  grown_le : length (with_name p.name seen) ≤ length final
-  grown_le = let r = firsts_more (λ (q : Named). q.name) (with_name p.name seen) ps in omega (arith, ap length r.1 ∙ length-append (with_name p.name seen) r.0)
-
   -- the greatest number so far is how many names there are
   max_here : max (length seen) (number_of p.name final) ≡ length (with_name p.name seen)
   max_here =
