@@ -1,3 +1,3 @@
-mod Fronts
+mod Loops
 mod Nodes
 mod Opened

@@ -6,12 +6,13 @@ use Rattle.std.specs.Prelude.{◌≡◌, ℕ, List, Ok, Err, Result, ◌≢◌}
 use Rattle.stored.specs.declared.fault.ImageFault.{ImageFault}
 use Rattle.stored.specs.Plans.{Named, Stored, stored, Storable}
 use Rattle.stored.specs.Images.{image}
-use Rattle.stored.specs.Openings.{nodes_in, opened}
+use Rattle.stored.specs.Openings.{opened}
 use Rattle.image.specs.Named.{names_in}
+use Rattle.image.specs.Numbered.{numbered}
 use Rattle.image.specs.declared.image.Image.{Image}
 
 abbrev pub shown : Image → Stored
-shown i = record { names = names_in i.count i.names.now; nodes = nodes_in 1 i.nodes.now }
+shown i = record { names = names_in i.count i.names.now; nodes = numbered 1 i.nodes.now }
 
 abbrev pub Opens : List ℕ → Image → Result (Unit {0}) ImageFault → Image → Type 0
 Opens s before (Ok u) after = opened s ≡ Ok (shown after)
