@@ -66,17 +66,10 @@ pub fn split_header<'a>(bytes: &'a [u8]) -> Result<&'a [u8], ImageFault>
     ensures { body_told result ≡ body_at bytes.now }
 {
     match bytes {
-        [1, a, b, c, d, body @ ..] => {
-            let length = u32::from_be_bytes([*a, *b, *c, *d]);
-            if length as usize == body.len() {
-                Ok(body)
-            } else {
-                Err(ImageFault::Length)
-            }
-        }
-        [1, ..] => Err(ImageFault::Length),
+        [1, a, b, c, d, body @ ..] if u32::from_be_bytes([*a, *b, *c, *d]) as usize == body.len() =>
+            Ok(body),
+        [1, ..] | [] => Err(ImageFault::Length),
         [_, ..] => Err(ImageFault::Version),
-        [] => Err(ImageFault::Length),
     }
 }
 
