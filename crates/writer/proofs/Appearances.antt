@@ -4,12 +4,12 @@ use Rattle.std.specs.List.{AllByRecursion}
 use Rattle.std.specs.Option.{unwrap_or}
 use Rattle.std.proofs.ByRecursion.{All-push, All-get_or, All-weaker}
 use Rattle.std.proofs.lemmas.List.{get_or-set_same, get_or-set_other, get_or-replicate, get_or-take, map_push, take_all, length_push, length-take-le}
-use Rattle.std.proofs.lemmas.Bool.{ltb-true, cases_eq, cases_lt}
+use Rattle.std.proofs.lemmas.Bool.{ltb-true, lt-ltb, cond-true, cases_eq, cases_lt}
 use Rattle.names.specs.Lists.{before, number_of, with_name, ShortName, IsNameList}
 use Rattle.names.specs.NameLists.{named}
 use Rattle.names.proofs.Found.{none_some, some_same, cond_some}
 use Rattle.names.proofs.Firsts.{with_known, with_new, firsts_push, number_new, number_other, first_names_few}
-use Rattle.names.proofs.Names.{number_some, number_none, named_some}
+use Rattle.names.proofs.Names.{number_some, number_none}
 use Rattle.tree.specs.Nodes.{Node, nowhere, count, node_at, label_at}
 use Rattle.stored.specs.Plans.{Named, name_at, named_by, plan_of, names_of}
 use Rattle.stored.proofs.Storable.{Borne, plan_known}
@@ -59,7 +59,12 @@ name_short ms list k l =
     All-get_or (λ (m : List ℕ). length m ≤ 64) ([] ∷ ms) k [] (omega arith) (omega arith, all)
 
 pub named_not : (ms : List (List ℕ)) (k : ℕ) → 1 ≤ k → None ≡ named ms k → length ms < k
-named_not ms k a e = ⊎_elim (λ (l : length ms < k). l) (λ (l : k ≤ length ms). absurd (none_some (get_or ms (k - 1) []) (e ∙ sym (named_some ms k a l)))) (cases_lt (length ms) k)
+named_not ms zero a e = absurd (omega arith)
+named_not ms (suc k) a e =
+    ⊎_elim
+    (λ (l : length ms < suc k). l)
+    (λ (l : suc k ≤ length ms). absurd (none_some (get_or ms k []) (e ∙ cond-true _ (Some (get_or ms k [])) None (lt-ltb k (length ms) (omega arith)))))
+    (cases_lt (length ms) (suc k))
 
 all_before : (ms : List (List ℕ)) (ns : List Node) (m : ℕ) → AllByRecursion (Borne ms) (take m ns) → m ≤ count ns → (j : ℕ) → 1 ≤ j → j < m + 1 → label_at ns j ≤ length ms
 all_before ms ns m a l zero b h = absurd (omega arith)

@@ -25,14 +25,14 @@ invariant_of-self g c =
     let p = parent_marked ns q node_limit laws s.node c.args.node c.from.result (items s.marks) kept c.requires.next c.requires.within s.marked deep c.cut.ensures.items c.top.result c.unwrap-parent.result c.top.ensures c.unwrap-parent.ensures in
     let wide : length (lent c.cut.new.self) ≡ 65 = ap length c.cut.ensures.slots ∙ s.room in
     let room = room_next ns q node_limit laws s.node c.args.node c.from.result (items s.marks) kept c.requires.next c.requires.within s.marked deep c.cut.ensures.items _ wide in
-    let after = pushed c.cut.new.self _ c.push.result c.push.new.self c.push.ensures room in
+    let after = pushed c.cut.new.self _ c.push.result c.push.new.self c.push.ensures.pushed room in
     let w = c.child-marks.result.here in
     let bits : (i : ℕ) → i < length q → bit w (suc i) ≡ hit (get_or q i any_step) i c.unwrap-parent.result (label_at ns c.args.node) =
     λ i l. subst (λ (x : ℕ). bit w (suc i) ≡ hit (get_or q i any_step) i c.unwrap-parent.result x) c.label.ensures (c.child-marks.ensures.bits i l) in
     let marked = marked_below ns q c.args.node c.unwrap-parent.result w (omega arith) c.requires.within p c.child-marks.ensures.none bits c.child-marks.result refl c.child-marks.ensures.over in
     record {
       question = s.question;
-      room = pushed_lent c.cut.new.self _ c.push.result c.push.new.self c.push.ensures ∙ wide;
+      room = pushed_lent c.cut.new.self _ c.push.result c.push.new.self c.push.ensures.pushed ∙ wide;
       within = c.requires.within;
       marked = open_more ns q c.args.node _ kept (items c.push.new.self) (omega arith) marked o after.after;
     }
