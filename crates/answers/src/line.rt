@@ -57,6 +57,7 @@ fn walked<T: Tree>(heap: Global, tree: &T, steps: &[Step]) -> Result<String, All
 }
 
 // The line that answers a question text, asked of a tree whose labels are the numbers of these names.
+// Tree and names are told apart, here and in the calls for images, since one list of names serves every view of a tree.
 pub fn answer<T: Tree>(
     heap: Global,
     tree: &T,

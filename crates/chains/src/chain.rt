@@ -4,6 +4,7 @@ ghost use Rattle.std.specs.Prelude.{◌≡◌, length};
 pub mod methods;
 
 // Places and keys are counted from 0.
+// Two arrays of fixed size, by key and by place, since nothing is allocated.
 #[derive(Drop)]
 pub struct Chain<const KEYS: usize, const PLACES: usize> {
     // for each key the newest place that holds it

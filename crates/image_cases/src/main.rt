@@ -2,9 +2,11 @@
 // then every beginning and every change of one byte of a small image, and images at the limits.
 #![tactic(auto)]
 
+ghost use Rattle.std.specs.Prelude.{◌<◌};
+
 use answers::line::{answer, refused};
 use image::image::Image;
-use image_lines::text::nodes;
+use image_lines::text::read_back;
 use names::list::NameList;
 use std::alloc::{AllocError, Global};
 use std::io;
@@ -62,6 +64,7 @@ fn deep(nodes: u16) -> Shape {
     }
 }
 
+// Of great letters, where plan texts are told in small ones: a crate for the two would be longer than both.
 fn hex_digit(b: u8) -> u8 {
     match b {
         b'0'..=b'9' => b - b'0',
@@ -132,16 +135,8 @@ fn image_of(heap: Global, shape: Shape) -> Result<Vec<u8>, AllocError> {
 }
 
 fn print_outcome(rt: &HostRuntime, bytes: &[u8]) -> io::Result<()> {
-    let mut image = Image::new();
-    match image.open(bytes) {
-        Ok(()) => {
-            let mut slots = [&bytes[0..0]; 512];
-            let names = image.names(&mut slots);
-            rt.stdout()
-                .write_all(nodes(rt.alloc(), &image, &names)?.as_slice())
-        }
-        Err(fault) => rt.print(refused(rt.alloc(), &fault)?),
-    }
+    rt.stdout()
+        .write_all(read_back(rt.alloc(), bytes)?.as_slice())
 }
 
 // For a large image only how many names and nodes it has.
@@ -176,14 +171,15 @@ fn print_beginnings(rt: &HostRuntime) -> io::Result<()> {
     Ok(())
 }
 
-fn print_changes_at(rt: &HostRuntime, at: usize) -> io::Result<()> {
-    for value in 0..=255 {
-        if at < 19 && SMALL[at] != value {
-            let mut changed = SMALL;
-            changed[at] = value;
-            print!(rt; "{at} {value}: ")?;
-            print_outcome(rt, &changed)?;
-        }
+// Every other byte at this place, where the image has `byte`.
+fn print_changes_at(rt: &HostRuntime, at: usize, byte: u8) -> io::Result<()>
+    requires { at < 19 }
+{
+    for value in (0..=255).filter(|value| *value != byte) {
+        let mut changed = SMALL;
+        changed[at] = value;
+        print!(rt; "{at} {value}: ")?;
+        print_outcome(rt, &changed)?;
     }
     Ok(())
 }
@@ -269,8 +265,8 @@ fn print_views(rt: &HostRuntime) -> io::Result<()> {
 fn main(rt: HostRuntime) -> io::Result<()> {
     print_input(&rt)?;
     print_beginnings(&rt)?;
-    for at in 0..SMALL.len() {
-        print_changes_at(&rt, at)?;
+    for (at, &byte) in SMALL.iter().enumerate() {
+        print_changes_at(&rt, at, byte)?;
     }
     print_limits(&rt)?;
     print_views(&rt)

@@ -1,8 +1,9 @@
 // The bytes of an image in hexadecimal, and a line for each node.
 ghost use Rattle.std.specs.Prelude.{◌≡◌, ◌<◌, length, IfOk, codes, slice_index};
 ghost use Rattle.names.specs.NameLists.{listed};
+ghost use Rattle.stored.specs.Openings.{opened};
 ghost use Rattle.stored.specs.Plans.{name_at};
-ghost use Rattle.image_lines.specs.Texts.{hex_line, label_line, node_lines, seen_text, Returns};
+ghost use Rattle.image_lines.specs.Texts.{hex_line, label_line, node_lines, opened_lines, seen_text, Returns};
 
 use answers::line::refused;
 use image::image::Image;
@@ -69,20 +70,26 @@ pub fn nodes<T: Tree>(
     Ok(text)
 }
 
-// The bytes, and then the nodes that are read from them, or why they are refused.
-pub fn seen(heap: Global, bytes: &[u8]) -> Result<Vec<u8>, AllocError>
-    ensures { IfOk result (λ text. text.items ≡ seen_text bytes.now) }
+// The nodes that are read from the bytes, or why they are refused.
+pub fn read_back(heap: Global, bytes: &[u8]) -> Result<Vec<u8>, AllocError>
+    ensures { IfOk result (λ text. text.items ≡ opened_lines (opened bytes.now)) }
 {
-    let mut text = hex_bytes(heap, bytes)?;
     let mut image = Image::new();
     match image.open(bytes) {
         Ok(()) => {
             let mut slots = [&bytes[0..0]; 512];
-            let names = image.names(&mut slots);
-            text.extend_from_slice(nodes(heap, &image, &names)?.as_slice())?;
+            nodes(heap, &image, &image.names(&mut slots))
         }
-        Err(fault) => text.extend_from_slice(refused(heap, &fault)?.as_bytes())?,
+        Err(fault) => Ok(refused(heap, &fault)?.into_bytes()),
     }
+}
+
+// The bytes, and then what is read from them.
+pub fn seen(heap: Global, bytes: &[u8]) -> Result<Vec<u8>, AllocError>
+    ensures { IfOk result (λ text. text.items ≡ seen_text bytes.now) }
+{
+    let mut text = hex_bytes(heap, bytes)?;
+    text.extend_from_slice(read_back(heap, bytes)?.as_slice())?;
     Ok(text)
 }
 
@@ -112,4 +119,23 @@ pub fn round_trip<T: Tree>(
 {
     let mut out = vec![in heap; 0; MOST_BYTES]?;
     written(heap, tree, names, out.as_mut_slice())
+}
+
+#[cfg(test)]
+mod tests {
+    use super::read_back;
+    use std::test::Fail;
+
+    // <A><B/></A>
+    static SMALL: [u8; 19] = [
+        1, 0, 0, 0, 14, 0, 2, 1, b'A', 1, b'B', 0, 2, 0, 1, 1, 0, 2, 2,
+    ];
+
+    #[test]
+    fn an_image_is_read_back_or_refused(rt: HostRuntime) -> Result<(), Fail> {
+        let heap = rt.alloc();
+        assert!(rt; read_back(heap, &SMALL)?.as_slice() == b"1 1 A\n2 2 B\n");
+        assert!(rt; read_back(heap, &SMALL[..18])?.as_slice() == b"refused 11 at 0\n");
+        Ok(())
+    }
 }

@@ -16,7 +16,7 @@ pub mod methods;
 
 pub const MOST_DEPTH: usize = 64;
 
-// The nodes and names read so far are the first ones of the lent slots, as many as `counts` counts.
+// The nodes and names read so far are the first ones of the slots, which are lent, so `counts` stands beside them.
 #[derive(Drop)]
 pub struct Draft<'n, 's, 'o, 't, 'a> {
     pub nodes: &'n mut [Slot],

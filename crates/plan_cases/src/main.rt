@@ -11,6 +11,7 @@ use std::io::{BufRead, BufReader};
 use tree::refusal::Refusal;
 use tree::slot::Slot;
 
+// Of small letters, where images are told in great ones: a crate for the two would be longer than both.
 fn hex_digit(b: u8) -> u8
     ensures { result < 16 }
 {

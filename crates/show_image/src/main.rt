@@ -10,6 +10,7 @@ use std::io;
 use tree::slot::Slot;
 use tree::table::methods::MOST_NODES;
 
+// It opens the plan as `walk_paths` does: a function for both would take a closure over a plan of three lifetimes.
 fn main(rt: HostRuntime) -> io::Result<()> {
     let heap = rt.alloc();
     let file = read_or_empty(&rt, "plan.xml")?;

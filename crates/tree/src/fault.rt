@@ -5,7 +5,7 @@ use crate::refusal::{Refusal, Told};
 
 #[derive(Clone, Copy, Debug, PartialEq, Drop)]
 pub enum TableFault {
-    // The first wrong node, or 0 for a wrong count.
+    // The first wrong node, or 0 for a wrong count: it is the place that is told, and a case more would be told alike.
     NoTree(u16),
 }
 

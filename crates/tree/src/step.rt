@@ -8,7 +8,7 @@ pub enum Axis {
     Descendant,
 }
 
-// A label that no node bears, as 0, is a test that no node passes.
+// A label that no node bears, as 0, is a test that no node passes: a case of its own would be that test once more.
 #[derive(Clone, Copy, Debug, PartialEq, Drop)]
 pub enum Test {
     Any,

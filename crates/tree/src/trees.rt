@@ -4,7 +4,8 @@ ghost use Rattle.tree.specs.Nodes.{Node as Entry, Laws, node_limit, count as man
 
 use crate::node::Node;
 
-// Nodes are numbered from 1; for 0 and for numbers above the count a tree answers a node of zeros.
+// Nodes are numbered from 1; for 0 and for numbers above the count a tree answers a node of zeros, not an Option:
+// each call of a tree answers for every number.
 pub trait Tree {
     ghost nodes: { Self → List Entry };
 

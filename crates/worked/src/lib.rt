@@ -36,33 +36,24 @@ mod tests {
         outcome_in(text, &mut [Slot::default(); 80], &mut [&text[0..0]; 4])
     }
 
-    // Bytes, as often as that.
-    fn repeated(heap: Global, bytes: &[u8], times: usize) -> Result<Vec<u8>, AllocError> {
-        let mut made = Vec::new(heap);
-        for _ in 0..times {
-            made.extend_from_slice(bytes)?;
-        }
-        Ok(made)
-    }
-
     // Elements in one another, as deep as that.
     fn nested(heap: Global, depth: usize) -> Result<Vec<u8>, AllocError> {
-        let mut text = repeated(heap, b"<A>", depth)?;
-        text.extend_from_slice(repeated(heap, b"</A>", depth)?.as_slice())?;
+        let mut text = b"<A>".repeat(heap, depth)?;
+        text.extend_from_slice(b"</A>".repeat(heap, depth)?.as_slice())?;
         Ok(text)
     }
 
     // An empty tag whose name has as many bytes.
     fn with_name(heap: Global, length: usize) -> Result<Vec<u8>, AllocError> {
-        let mut text = repeated(heap, b"<", 1)?;
-        text.extend_from_slice(repeated(heap, b"A", length)?.as_slice())?;
+        let mut text = Vec::from_slice(heap, b"<")?;
+        text.extend_from_slice(b"A".repeat(heap, length)?.as_slice())?;
         text.extend_from_slice(b"/>")?;
         Ok(text)
     }
 
     // A root with as many empty tags in it, each with a name of its own.
     fn with_names(heap: Global, count: usize) -> Result<Vec<u8>, AllocError> {
-        let mut text = repeated(heap, b"<R>", 1)?;
+        let mut text = Vec::from_slice(heap, b"<R>")?;
         for number in 0..count {
             text.extend_from_slice(format!(in heap; "<N{number}/>")?.as_bytes())?;
         }
@@ -72,8 +63,8 @@ mod tests {
 
     // A root with as many empty tags in it.
     fn with_nodes(heap: Global, count: usize) -> Result<Vec<u8>, AllocError> {
-        let mut text = repeated(heap, b"<R>", 1)?;
-        text.extend_from_slice(repeated(heap, b"<A/>", count)?.as_slice())?;
+        let mut text = Vec::from_slice(heap, b"<R>")?;
+        text.extend_from_slice(b"<A/>".repeat(heap, count)?.as_slice())?;
         text.extend_from_slice(b"</R>")?;
         Ok(text)
     }
@@ -105,11 +96,11 @@ mod tests {
         assert_eq!(rt; outcome(nested(heap, 64)?.as_slice()), Ok((64, 1)));
         assert_eq!(rt; outcome(nested(heap, 65)?.as_slice()), Err((7, 192)));
         assert_eq!(rt;
-            outcome(repeated(heap, b" ", 65536)?.as_slice()),
+            outcome(b" ".repeat(heap, 65536)?.as_slice()),
             Err((5, 65536))
         );
         assert_eq!(rt;
-            outcome(repeated(heap, b" ", 65537)?.as_slice()),
+            outcome(b" ".repeat(heap, 65537)?.as_slice()),
             Err((1, 0))
         );
         Ok(())
@@ -184,17 +175,17 @@ mod tests {
     #[test]
     fn questions_at_their_limits(rt: HostRuntime) -> Result<(), Fail> {
         let heap = rt.alloc();
-        let mut longest = repeated(heap, b"/", 1)?;
-        longest.extend_from_slice(repeated(heap, b"A", 511)?.as_slice())?;
+        let mut longest = Vec::from_slice(heap, b"/")?;
+        longest.extend_from_slice(b"A".repeat(heap, 511)?.as_slice())?;
         assert!(rt; answers(heap, longest.as_slice(), b"0\n")?);
         longest.push(b'A')?;
         assert!(rt; answers(heap, longest.as_slice(), b"refused 41 at 0\n")?);
         assert!(rt; answers(heap, b"", b"refused 41 at 0\n")?);
-        assert!(rt; answers(heap, repeated(heap, b"//*", 32)?.as_slice(), b"0\n")?);
+        assert!(rt; answers(heap, b"//*".repeat(heap, 32)?.as_slice(), b"0\n")?);
         assert!(rt;
             answers(
                 heap,
-                repeated(heap, b"//*", 33)?.as_slice(),
+                b"//*".repeat(heap, 33)?.as_slice(),
                 b"refused 43 at 96\n",
             )?
         );

@@ -51,7 +51,9 @@ fn write_nodes<T: Tree>(output: &mut Output<'_>, tree: &T, numbering: &Numbering
     ensures { Wrote output.old (flat_map (numbered_field numbering.now.numbers) (T.Tree.nodes tree.now)) output.new }
 {
     for node in 1..=tree.count() {
-        let [high, low] = numbering.number(tree.label(node)).to_be_bytes();
+        // Each name that is written has appeared.
+        let number = numbering.number(tree.label(node)).unwrap_or(0);
+        let [high, low] = number.to_be_bytes();
         output.write(&[high, low, tree.depth(node) as u8]);
     }
 }

@@ -15,7 +15,8 @@ pub const MOST_NODES: usize = 4096;
 
 pub const MOST_DEPTH: u16 = 64;
 
-// Whether a node with this label and depth may come after one of depth `before`, or first where that is 0.
+// Whether a node with this label and depth may come after one of depth `before`.
+// The document has depth 0, so what comes first needs no case of its own, and no Option.
 pub fn may_follow(before: u16, label: u16, depth: u16) -> bool
     ensures { result ≡ shape before label depth }
 {

@@ -1,7 +1,7 @@
 // Numbering names, and what their numbers are.
 ghost use Rattle.std.specs.Prelude.{◌≡◌, ◌+◌, ◌*◌, ◌<◌, ◌≤◌, [], length, None, replicate, slice_index_or};
 ghost use Rattle.std.specs.List.{sum_by};
-ghost use Rattle.writer.specs.Numberings.{ordered, number_at, Added};
+ghost use Rattle.writer.specs.Numberings.{ordered, Added};
 
 use super::Numbering;
 use arrayvec::ArrayVec;
@@ -35,15 +35,11 @@ impl<'t> Numbering<'t> {
         }
     }
 
-    // The number of a label's name, or 0 where that has not appeared.
-    pub fn number(&self, label: u16) -> u16
-        ensures { result ≡ number_at self.now.numbers label }
+    // The number of a label's name, once that has appeared.
+    pub fn number(&self, label: u16) -> Option<u16>
+        ensures { result ≡ slice_index_or self.now.numbers label None }
     {
-        self.numbers
-            .get(label as usize)
-            .copied()
-            .flatten()
-            .unwrap_or(0)
+        *self.numbers.get(label as usize)?
     }
 
     // The names in their order.

@@ -1,5 +1,6 @@
-use Rattle.std.proofs.Common.{◌≡◌, ℕ, ◌+◌, ◌-◌, List, [], ◌∷◌, ◌++◌, get_or, take, ap, ◌∙◌, subst, ap₂, arith}
+use Rattle.std.proofs.Common.{◌≡◌, ℕ, Option, ◌+◌, ◌-◌, List, [], ◌∷◌, ◌++◌, get_or, take, ap, ◌∙◌, subst, ap₂, arith}
 use Rattle.std.specs.List.{flat_map}
+use Rattle.std.specs.Option.{unwrap_or}
 use Rattle.std.proofs.lemmas.List.{take_all}
 use Rattle.tree.specs.Nodes.{node_at, label_at}
 use Rattle.stored.specs.Bytes.{two}
@@ -21,7 +22,7 @@ field_wrote g c =
     let numbers = c.args.numbering.now.numbers in
     let k = c.loop-node.node in
     let part = get_or c.to_be_bytes.result 0 0 ∷ get_or c.to_be_bytes.result 1 0 ∷ c.depth.result ∷ [] in
-    let number : c.number.result ≡ number_at numbers (label_at ns k) = c.number.ensures ∙ ap (number_at numbers) c.label.ensures in
+    let number : c.unwrap_or-number.result ≡ number_at numbers (label_at ns k) = c.unwrap_or-number.ensures ∙ ap (λ (o : Option ℕ). unwrap_or o 0) c.number.ensures ∙ ap (number_at numbers) c.label.ensures in
     let bytes : c.to_be_bytes.result ≡ two (number_at numbers (label_at ns k)) = c.to_be_bytes.ensures ∙ ap two number in
     let field : part ≡ numbered_field numbers (node_at ns k) = ap₂ (λ (x : List ℕ) (d : ℕ). get_or x 0 0 ∷ get_or x 1 0 ∷ d ∷ []) bytes c.depth.ensures in
     subst (λ (p : List ℕ). Wrote c.args.output.now p c.write.new.self)
