@@ -5,11 +5,11 @@ ghost use Rattle.walk.specs.Walks.{Question, origins};
 ghost use Rattle.answers.specs.Lines.{answer_line, nodes_line, refused_line, plan_refused_line};
 
 use names::list::NameList;
-use path::question::{MOST_STEPS, read_question};
+use path::question::read_question;
 use std::alloc::{AllocError, Global};
 use std::fmt::Write;
 use tree::refusal::Refusal;
-use tree::step::{Axis, Step, Test};
+use tree::step::{Axis, MOST_STEPS, Step, Test};
 use tree::table::methods::MOST_NODES;
 use tree::trees::Tree;
 use walk::walk;

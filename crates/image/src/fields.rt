@@ -9,9 +9,9 @@ use names::list::methods::stands_apart;
 use stored::fault::ImageFault;
 use tree::table::methods::may_follow;
 
-pub const MOST_NAMES: u16 = 512;
+pub const MOST_NAMES: u16 = names::list::methods::MOST_NAMES as u16;
 
-const MOST_NODES: u16 = 4096;
+const MOST_NODES: u16 = tree::table::methods::MOST_NODES as u16;
 
 // The place in an image where its body begins, which is all that follows the length.
 pub const BODY: u32 = 5;
@@ -108,7 +108,7 @@ pub fn read_names<'a>(fields: &'a [u8], slots: &mut [&'a [u8]]) -> Result<&'a [u
     Ok(rest)
 }
 
-// A node field, and what follows it.
+// A node field, and what follows it. By pattern: over `split_first_chunk` goals stayed open.
 fn split_node<'a>(bytes: &'a [u8]) -> Option<(Field, &'a [u8])>
     ensures { field_told result ≡ node_field_at bytes.now }
 {

@@ -75,10 +75,8 @@ fn hex_digit(b: u8) -> u8 {
 
 fn bytes_of(heap: Global, line: &[u8]) -> Result<Vec<u8>, AllocError> {
     let mut bytes = Vec::new(heap);
-    let mut rest = line;
-    while let [high, low, behind @ ..] = rest {
+    for [high, low] in line.as_chunks::<2>().0 {
         bytes.push((hex_digit(*high) & 15) * 16 + (hex_digit(*low) & 15))?;
-        rest = behind;
     }
     Ok(bytes)
 }

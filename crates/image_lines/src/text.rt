@@ -15,7 +15,7 @@ use writer::write::write;
 // No image is longer.
 const MOST_BYTES: usize = 45577;
 
-// A table, since `{:02X}` would put a text on the heap for each byte.
+// A table, since the proof over `{:02X}` did not close.
 static DIGITS: &[u8; 16] = b"0123456789ABCDEF";
 
 fn hex_digit(n: u8) -> u8
@@ -54,6 +54,7 @@ fn name_of<'t>(names: &NameList<'_, 't>, label: u16) -> &'t [u8]
 }
 
 // A line for each node of a tree whose labels are numbers of these names.
+// Tree and names are told apart, since one list of names serves every view of a tree.
 pub fn nodes<T: Tree>(
     heap: Global,
     tree: &T,

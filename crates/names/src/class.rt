@@ -5,6 +5,7 @@ ghost use Rattle.names.specs.Words.{after, begins as begins_with};
 
 use crate::bytes::{continues_name, is_white, starts_name};
 
+// A trait and no closure: contracts name its ghost member.
 pub trait Class {
     ghost member: { Self → ℕ → Bool };
 

@@ -11,11 +11,9 @@ use names::bytes::starts_name;
 use names::list::NameList;
 use names::scan::split_name;
 use tree::stack::Stack;
-use tree::step::{Axis, Step, Test};
+use tree::step::{Axis, MOST_STEPS, Step, Test};
 
 const MOST_BYTES: usize = 512;
-
-pub const MOST_STEPS: usize = 32;
 
 // A label that no node bears.
 const NO_LABEL: u16 = 0;

@@ -14,9 +14,9 @@ use tree::stack::Stack;
 mod find;
 pub mod methods;
 
-pub const MOST_DEPTH: usize = 64;
+pub const MOST_DEPTH: usize = tree::table::methods::MOST_DEPTH as usize;
 
-// The nodes and names read so far are the first ones of the slots, which are lent, so `counts` stands beside them.
+// The nodes and names read so far are the first ones of the lent slots. No stacks, since names are looked up by place.
 #[derive(Drop)]
 pub struct Draft<'n, 's, 'o, 't, 'a> {
     pub nodes: &'n mut [Slot],

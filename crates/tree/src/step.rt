@@ -2,6 +2,9 @@
 ghost use Rattle.std.specs.Prelude.{◌≡◌};
 ghost use Rattle.tree.specs.Paths.{admits as admitted};
 
+// How many steps a question can have.
+pub const MOST_STEPS: usize = 32;
+
 #[derive(Clone, Copy, Debug, PartialEq, Drop)]
 pub enum Axis {
     Child,

@@ -4,8 +4,8 @@ ghost use Rattle.tree.specs.Nodes.{Node as Entry, Laws, node_limit, count as man
 
 use crate::node::Node;
 
-// Nodes are numbered from 1; for 0 and for numbers above the count a tree answers a node of zeros, not an Option:
-// each call of a tree answers for every number.
+// Nodes are numbered from 1; for 0 and for numbers above the count a tree answers a node of zeros and no Option:
+// a rule of the project, on which the definitions of labels, depths and origins rest.
 pub trait Tree {
     ghost nodes: { Self → List Entry };
 

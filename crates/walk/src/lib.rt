@@ -7,14 +7,12 @@ ghost use Rattle.walk.specs.Walks.{Walked, XPathSelects, origins};
 use crate::fault::WalkFault;
 use crate::marks::Marks;
 use crate::selected::Selected;
-use tree::step::Step;
+use tree::step::{MOST_STEPS, Step};
 use tree::trees::Tree;
 
 pub mod fault;
 mod marks;
 mod selected;
-
-const MOST_STEPS: usize = 32;
 
 // The document and at most 64 open nodes.
 const MOST_MARKS: usize = 65;
@@ -34,6 +32,7 @@ pub fn walk<T: Tree>(tree: &T, steps: &[Step], out: &mut [u16]) -> Result<u16, W
     if usize::from(needed) > out.len() {
         return Err(WalkFault::Short(needed));
     }
+    // By index: over `iter_mut().zip(..)` the invariant of the loop cannot name `out`.
     for (i, origin) in Selected::new(tree, steps, &mut slots).enumerate() {
         out[i] = origin;
     }

@@ -11,6 +11,7 @@ pub struct Marks {
     over: u64,
 }
 
+// A number of steps is told with its bound, here and below: a type for it would wrap each index of an iterator.
 fn bit(word: u64, i: usize) -> bool
     requires { i ≤ 32 }
     ensures { result ≡ bit_at word i }

@@ -19,6 +19,7 @@ fn answer_all(rt: &HostRuntime, plan: &Plan<'_, '_, '_>) -> io::Result<()> {
     Ok(())
 }
 
+// It opens the plan as `show_image` does: a function for both would take a closure over a plan of three lifetimes.
 fn main(rt: HostRuntime) -> io::Result<()> {
     let file = read_or_empty(&rt, "plan.xml")?;
     let text = file.as_slice();

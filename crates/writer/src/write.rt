@@ -51,7 +51,7 @@ fn write_nodes<T: Tree>(output: &mut Output<'_>, tree: &T, numbering: &Numbering
     ensures { Wrote output.old (flat_map (numbered_field numbering.now.numbers) (T.Tree.nodes tree.now)) output.new }
 {
     for node in 1..=tree.count() {
-        // Each name that is written has appeared.
+        // Each name that is written has appeared; an unwrap would ask that of every caller.
         let number = numbering.number(tree.label(node)).unwrap_or(0);
         let [high, low] = number.to_be_bytes();
         output.write(&[high, low, tree.depth(node) as u8]);
@@ -76,6 +76,7 @@ fn write_all<T: Tree>(out: &mut [u8], length: usize, tree: &T, numbering: &Numbe
 }
 
 // Writes the image of a tree whose labels are numbers of these names, and answers its length.
+// Tree and names are told apart, since one list of names serves every view of a tree.
 pub fn write<T: Tree>(
     tree: &T,
     names: &NameList<'_, '_>,

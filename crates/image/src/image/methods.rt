@@ -71,7 +71,7 @@ impl<'a> Image<'a> {
         list
     }
 
-    // The field of the node that has this number.
+    // The field of the node that has this number. Two calls, as in a table: a function for them would be no shorter.
     fn field(&self, number: u16) -> Option<&'a [u8; 3]>
         ensures { option_copied result ≡ field_at self.now.nodes.now number }
     {

@@ -79,7 +79,7 @@ impl<'s, 't> NameList<'s, 't> {
         self.names.len()
     }
 
-    // The name with a number, from 1.
+    // The name with a number, from 1. Two calls, as in a table: a function for them would be no shorter.
     pub fn name(&self, number: u16) -> Option<&'t [u8]>
         ensures { option_map (λ x. x.now) result ≡ named (listed self.now) number }
     {

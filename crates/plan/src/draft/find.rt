@@ -7,7 +7,8 @@ use super::Draft;
 use crate::hash::hash;
 
 impl<'a> Draft<'_, '_, '_, '_, 'a> {
-    // The place of the name among the known ones.
+    // The place of the name among the known ones. It goes with the name to two calls more, which change the draft,
+    // so a struct for both could not keep the draft's promise about them.
     pub fn find_name(&self, name: &[u8]) -> Option<u16>
         ensures { Found (names_of self.now) name.now result }
     {

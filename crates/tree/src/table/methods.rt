@@ -15,8 +15,8 @@ pub const MOST_NODES: usize = 4096;
 
 pub const MOST_DEPTH: u16 = 64;
 
-// Whether a node with this label and depth may come after one of depth `before`.
-// The document has depth 0, so what comes first needs no case of its own, and no Option.
+// Whether a node with this label and depth may come after one of depth `before`, or first where that is 0.
+// No Option: 0 is the depth of the document, and the next depth is counted from it.
 pub fn may_follow(before: u16, label: u16, depth: u16) -> bool
     ensures { result ≡ shape before label depth }
 {
@@ -47,6 +47,7 @@ impl<'a> Table<'a> {
         Table { slots: &ONE }
     }
 
+    // Two calls, as wherever items are numbered from 1: a function for them would be no shorter.
     fn slot(&self, number: u16) -> Option<Slot>
         ensures { result ≡ slot_at (shown self.now) number }
     {
