@@ -1,15 +1,10 @@
 -- What an answer that holds something tells.
-use Rattle.std.proofs.Common.{◌≡◌, ℕ, Bool, true, false, cond, ◌⊎◌, Some, None, Option, refl, inl, inr, arith}
-
-pub none_some : {A : Type 0} (x : A) → None ≡ Some x → ⊥
-none_some x e = let z : ◌≡◌ {A = ℕ} 0 1 = cc in omega arith
-
-pub some_same : {A : Type 0} (x y : A) → Some x ≡ Some y → x ≡ y
-some_same x y e = cc
+use Rattle.std.proofs.Common.{◌≡◌, Bool, true, false, cond, ◌⊎◌, Some, None, Option, refl, inl, inr}
+use Rattle.std.proofs.lemmas.Option.{none-some}
 
 pub cond_some : {A : Type 0} (b : Bool) (o : Option A) (x : A) → cond b o None ≡ Some x → (b ≡ true) × (o ≡ Some x)
 cond_some true o x e = (refl, e)
-cond_some false o x e = absurd (none_some x e)
+cond_some false o x e = absurd (none-some x e)
 
 pub cond_either : {A : Type 0} (b : Bool) (o p : Option A) (x : A) → cond b o p ≡ Some x → ((b ≡ true) × (o ≡ Some x)) ⊎ ((b ≡ false) × (p ≡ Some x))
 cond_either true o p x e = inl (refl, e)

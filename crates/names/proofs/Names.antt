@@ -1,16 +1,15 @@
 -- The test of a name list and what it stands for.
-use Rattle.std.proofs.Common.{◌≡◌, ℕ, zero, suc, ◌+◌, ◌-◌, ◌<◌, ◌≤◌, Bool, true, false, not, cond, ◌&&◌, eqb, ltb, leb, List, [], ◌∷◌, length, get_or, take, drop, Option, Some, None, Ok, Err, Result, sym, refl, ap, ◌∙◌, subst, ⊎_elim, add-one, arith, Bor}
+use Rattle.std.proofs.Common.{◌≡◌, ℕ, zero, suc, ◌+◌, ◌-◌, ◌<◌, ◌≤◌, Bool, true, false, not, cond, ◌&&◌, eqb, ltb, leb, List, [], ◌∷◌, length, get_or, take, drop, Option, Some, None, Ok, Err, Result, sym, refl, ap, ◌∙◌, subst, ⊎_elim, add-one, arith}
 use Rattle.std.specs.List.{AllByRecursion}
 use Rattle.std.specs.Option.{option_map, is_some}
 use Rattle.std.specs.Str.{bytes_eq}
-use Rattle.std.proofs.lemmas.List.{take_rest}
 use Rattle.std.proofs.lemmas.Slice.Eq.{bytes_eq-Decides}
 use Rattle.std.proofs.lemmas.Bool.{cond-true, cond-false, eq-eqb, ne_eqb, eqb-true, le-leb, leb-true, lt-ltb, le-ltb, and_parts, and_from, both_ways, cases_lt}
 use Rattle.names.specs.declared.list.NoNameList.{NoNameList}
 use Rattle.names.specs.NameLists.{Sets}
 use Rattle.names.specs.Bytes.{name_start, name_byte}
 use Rattle.names.specs.Words.{Word, after}
-use Rattle.names.specs.Lists.{texts, before, place_of, number_in, number_of, NumberedIn, ShortName, IsNameList, all_in, word, short_name, good_beside, apart, name_list}
+use Rattle.names.specs.Lists.{before, place_of, number_in, number_of, NumberedIn, ShortName, IsNameList, all_in, word, short_name, good_beside, apart, name_list}
 use Rattle.names.proofs.Finds.{before_le}
 use Rattle.names.proofs.Runs.{at_first}
 
@@ -136,11 +135,6 @@ module _ (n : List ℕ) (ms : List (List ℕ)) where
   pub beside_none : (o : Option ℕ) (r : Bool) → is_some o ≡ not r → o ≡ place_of n ms → r ≡ eqb (before n ms) (length ms)
   beside_none o r e f = not_not (is_some o) r e ∙ ap (λ o. not (is_some o)) f ∙ none_found
 
--- a list of references, by its first
-pub first_and_others : (rs : List (Bor (List ℕ))) (d : Bor (List ℕ)) → 1 ≤ length rs → rs ≡ get_or rs 0 d ∷ take (length rs - 1) (drop 1 rs)
-first_and_others [] d h = absurd (omega arith)
-first_and_others (r ∷ rs) d h = ap (λ (z : List (Bor (List ℕ))). r ∷ z) (sym (take_rest (r ∷ rs) 1))
-
 -- the tests of a slice, by its first item
 module _ (s : List ℕ) (h : 1 ≤ length s) where
   pub word_yes : (t : List ℕ) → name_start (get_or s 0 0) ≡ true → t ≡ after name_byte (take (length s - 1) (drop 1 s)) → eqb (length t) 0 ≡ word s
@@ -148,23 +142,6 @@ module _ (s : List ℕ) (h : 1 ≤ length s) where
       ap (λ (z : List ℕ). eqb (length z) 0) e
       ∙ sym (all_in_after name_byte (take (length s - 1) (drop 1 s)))
       ∙ sym (at_first word s h ∙ ap (λ (b : Bool). b && all_in name_byte (take (length s - 1) (drop 1 s))) y)
-
-  pub word_no : name_start (get_or s 0 0) ≡ false → false ≡ word s
-  word_no n = sym (at_first word s h ∙ ap (λ (b : Bool). b && all_in name_byte (take (length s - 1) (drop 1 s))) n)
-
-module _ (rs : List (Bor (List ℕ))) (d : Bor (List ℕ)) (h : 1 ≤ length rs) where
-  apart_first : apart (texts rs) ≡ (good_beside (get_or rs 0 d).now (texts (take (length rs - 1) (drop 1 rs))) && apart (texts (take (length rs - 1) (drop 1 rs))))
-  apart_first = ap (λ (z : List (Bor (List ℕ))). apart (texts z)) (first_and_others rs d h)
-
-  pub apart_no : false ≡ good_beside (get_or rs 0 d).now (texts (take (length rs - 1) (drop 1 rs))) → false ≡ apart (texts rs)
-  apart_no e = sym (apart_first ∙ ap (λ (b : Bool). b && apart (texts (take (length rs - 1) (drop 1 rs)))) (sym e))
-
-  pub apart_yes : true ≡ good_beside (get_or rs 0 d).now (texts (take (length rs - 1) (drop 1 rs))) → apart (texts (take (length rs - 1) (drop 1 rs))) ≡ apart (texts rs)
-  apart_yes e = sym (apart_first ∙ ap (λ (b : Bool). b && apart (texts (take (length rs - 1) (drop 1 rs)))) (sym e))
-
-pub apart_end : (rs : List (Bor (List ℕ))) → length rs < 1 → true ≡ apart (texts rs)
-apart_end [] h = refl
-apart_end (r ∷ rs) h = absurd (omega arith)
 
 -- names that are a list are not refused
 pub set_holds : (new old : List (List ℕ)) (r : Result (Unit {0}) NoNameList) (held : List (List ℕ)) → IsNameList new → Sets new old r held → held ≡ new

@@ -14,23 +14,6 @@ pub first_and_rest : (s : List ℕ) → 1 ≤ length s → s ≡ get_or s 0 0 �
 first_and_rest [] h = absurd (omega arith)
 first_and_rest (b ∷ s) h = ap (λ (z : List ℕ). b ∷ z) (sym (take_rest (b ∷ s) 1))
 
-pub after_stops : (p : ℕ → Bool) (s : List ℕ) → length s < 1 → after p s ≡ s
-after_stops p [] h = refl
-after_stops p (b ∷ s) h = absurd (omega arith)
-
-pub after_here : (p : ℕ → Bool) (b : ℕ) (s t : List ℕ) → s ≡ b ∷ t → p b ≡ false → after p s ≡ s
-after_here p b s t e n = ap (after p) e ∙ ap (λ c. cond c (after p t) (b ∷ t)) n ∙ sym e
-
-pub after_next : (p : ℕ → Bool) (b : ℕ) (s t : List ℕ) → s ≡ b ∷ t → p b ≡ true → after p t ≡ after p s
-after_next p b s t e y = sym (ap (after p) e ∙ ap (λ c. cond c (after p t) (b ∷ t)) y)
-
--- one turn of a loop that passes over the run
-pub after_more : (p : ℕ → Bool) (s : List ℕ) → 1 ≤ length s → p (get_or s 0 0) ≡ true → after p (take (length s - 1) (drop 1 s)) ≡ after p s
-after_more p s h y = after_next p (get_or s 0 0) s _ (first_and_rest s h) y
-
-pub after_all : (p : ℕ → Bool) (s : List ℕ) → 1 ≤ length s → p (get_or s 0 0) ≡ false → after p s ≡ s
-after_all p s h n = after_here p (get_or s 0 0) s _ (first_and_rest s h) n
-
 -- a function of a text, by its first byte
 pub at_first : {Y : Type 0} (F : List ℕ → Y) (s : List ℕ) → 1 ≤ length s → F s ≡ F (get_or s 0 0 ∷ take (length s - 1) (drop 1 s))
 at_first F s h = ap F (first_and_rest s h)
@@ -51,16 +34,6 @@ pub front_is : (p : ℕ → Bool) (s : List ℕ) → take (length s - length (af
 front_is p s =
     let long : length (front p s) ≡ length s - length (after p s) = omega (arith, ap length (split p s) ∙ length-append (front p s) (after p s)) in
     ap (take (length s - length (after p s))) (split p s) ∙ take_at (front p s) (after p s) _ long
-
--- the rest after two bytes, as a slice pattern gives it
-pub two_and_rest : (s : List ℕ) → 2 ≤ length s → s ≡ get_or s 0 0 ∷ get_or s 1 0 ∷ take (length s - 2) (drop 2 s)
-two_and_rest [] h = absurd (omega arith)
-two_and_rest (a ∷ []) h = absurd (omega arith)
-two_and_rest (a ∷ b ∷ s) h = ap (λ (z : List ℕ). a ∷ b ∷ z) (sym (take_rest (a ∷ b ∷ s) 2))
-
--- a text that begins with two known bytes
-pub with_two : (s : List ℕ) (a b : ℕ) → 2 ≤ length s → get_or s 0 0 ≡ a → get_or s 1 0 ≡ b → s ≡ a ∷ b ∷ take (length s - 2) (drop 2 s)
-with_two s a b h p q = two_and_rest s h ∙ ap (λ z. z ∷ get_or s 1 0 ∷ take (length s - 2) (drop 2 s)) p ∙ ap (λ z. a ∷ z ∷ take (length s - 2) (drop 2 s)) q
 
 -- a run passes, and what follows it does not go on
 pub all_front : (p : ℕ → Bool) (s : List ℕ) → AllByRecursion (λ b. p b ≡ true) (front p s)

@@ -4,9 +4,9 @@ use Rattle.std.proofs.lemmas.List.{length-append, length-drop, length-take-le, t
 use Rattle.std.proofs.Math.Nat.{min-le_left, min-le_right, min-eq_left}
 use Rattle.std.proofs.lemmas.Bool.{cond-true, cond-false, eq-eqb, lt-ltb, or_left, or_right}
 use Rattle.std.specs.Option.{option_map}
+use Rattle.std.proofs.lemmas.Option.{none-some, same_Some}
 use Rattle.tree.specs.declared.stack.Stack.{Stack}
 use Rattle.tree.specs.Stacks.{items, lent, Grown}
-use Rattle.names.proofs.Found.{none_some, some_same}
 use Rattle.tree.specs.declared.step.Axis.TheVariants.{Child}
 use Rattle.tree.specs.declared.step.Test.TheVariants.{Any}
 use Rattle.tree.specs.declared.step.Step.{Step}
@@ -23,9 +23,9 @@ pub step_told : (ms : List (List ℕ)) (s : List ℕ) (p : Step) (r : List ℕ) 
 step_told ms s p r e = go (first_step s) refl e
   where
     go : (o : Option (Wording × List ℕ)) → first_step s ≡ o → ◌≡◌ {A = Option (Step × List ℕ)} (Some (p, r)) (option_map (λ z. (meant ms z.0, z.1)) o) → (w : Wording) × (first_step s ≡ Some (w, r)) × (p ≡ meant ms w)
-    go None h e = absurd (none_some (p, r) (sym e))
+    go None h e = absurd (none-some (p, r) (sym e))
     go (Some z) h e =
-        let k = some_same (p, r) (meant ms z.0, z.1) e in
+        let k = same_Some (p, r) (meant ms z.0, z.1) e in
         (z.0, h ∙ ap (λ (q : Step × List ℕ). Some (z.0, q.1)) (sym k), ap (λ (q : Step × List ℕ). q.0) k)
 
 pub no_step_told : (ms : List (List ℕ)) (s : List ℕ) → None ≡ step_of ms s → first_step s ≡ None
@@ -33,7 +33,7 @@ no_step_told ms s e = go (first_step s) refl e
   where
     go : (o : Option (Wording × List ℕ)) → first_step s ≡ o → ◌≡◌ {A = Option (Step × List ℕ)} None (option_map (λ z. (meant ms z.0, z.1)) o) → first_step s ≡ None
     go None h e = h
-    go (Some z) h e = absurd (none_some (meant ms z.0, z.1) e)
+    go (Some z) h e = absurd (none-some (meant ms z.0, z.1) e)
 
 pub record Sofar (ms : List (List ℕ)) (text : List ℕ) (before : List Step) (rest : List ℕ) (count : ℕ) (steps : List Step) : Type 0 where
   pub words : List Wording

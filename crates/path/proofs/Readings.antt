@@ -3,9 +3,9 @@ use Rattle.std.proofs.Common.{◌≡◌, ℕ, zero, suc, ◌≤◌, Bool, false,
 use Rattle.std.specs.List.{flat_map, AllByRecursion}
 use Rattle.std.proofs.lemmas.List.{length-append, length-map}
 use Rattle.std.proofs.lemmas.Bool.{ne_eqb, le-ltb, cond-false}
+use Rattle.std.proofs.lemmas.Option.{none-some}
 use Rattle.names.specs.Bytes.{name_byte}
 use Rattle.names.specs.Words.{begins}
-use Rattle.names.proofs.Found.{none_some}
 use Rattle.tree.specs.declared.step.Axis.TheVariants.{Child, Descendant}
 use Rattle.path.specs.declared.fault.QuestionFault.{QuestionFault}
 use Rattle.path.specs.declared.fault.QuestionFault.TheVariants.{Length}
@@ -14,7 +14,7 @@ use Rattle.path.specs.Questions.{Stop, at_end, no_step, enough, Reading, stopped
 use Rattle.path.proofs.Wordings.{step_sound, step_complete, test_some}
 
 no_step_here : (s : List ℕ) → first_step s ≡ None → IsNoStep s
-no_step_here s e w r b = none_some (w, r) (sym e ∙ step_complete s w r b)
+no_step_here s e w r b = none-some (w, r) (sym e ∙ step_complete s w r b)
 
 stops_here : (c : ℕ) (s : List ℕ) → first_step s ≡ None → Reads c s (stopped s (ending s))
 stops_here c [] e = record { steps = none; stops = (refl, omega arith) }

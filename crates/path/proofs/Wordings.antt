@@ -3,10 +3,11 @@ use Rattle.std.proofs.Common.{◌≡◌, ℕ, ◌-◌, ◌<◌, ◌≤◌, Bool,
 use Rattle.std.specs.List.{AllByRecursion}
 use Rattle.std.proofs.lemmas.List.{append_assoc, length-append}
 use Rattle.std.proofs.lemmas.Bool.{ne_eqb, eqb-true, cond-true, cond-false}
+use Rattle.std.proofs.lemmas.Option.{none-some, same_Some}
 use Rattle.names.specs.Bytes.{name_start, name_byte}
 use Rattle.names.specs.Words.{Word, front, after}
 use Rattle.names.proofs.Apart.{start_is_name, start_no_slash, start_no_star}
-use Rattle.names.proofs.Found.{none_some, some_same, cond_some, cond_either}
+use Rattle.names.proofs.Found.{cond_some, cond_either}
 use Rattle.names.proofs.Runs.{tl, first_and_rest, split, all_front, begins_after, after_append, front_append}
 use Rattle.tree.specs.declared.step.Axis.{Axis}
 use Rattle.tree.specs.declared.step.Axis.TheVariants.{Child, Descendant}
@@ -44,10 +45,10 @@ behind_sound (b ∷ s) x r e = go (eqb b 47) refl e
     go false h e = subst (λ (p : Axis × List ℕ). 47 ∷ b ∷ s ≡ slashes p.0 ++ p.1) e refl
 
 axis_sound : (s : List ℕ) (x : Axis) (r : List ℕ) → axis_at s ≡ Some (x, r) → s ≡ slashes x ++ r
-axis_sound [] x r e = absurd (none_some (x, r) e)
+axis_sound [] x r e = absurd (none-some (x, r) e)
 axis_sound (a ∷ s) x r e =
     let k = cond_some (eqb a 47) (Some (axis_behind s)) (x, r) e in
-    ap (λ z. z ∷ s) (eqb-true a 47 k.0) ∙ behind_sound s x r (some_same (axis_behind s) (x, r) k.1)
+    ap (λ z. z ∷ s) (eqb-true a 47 k.0) ∙ behind_sound s x r (same_Some (axis_behind s) (x, r) k.1)
 
 -- what test_at finds, said of the text
 record Tested (s : List ℕ) (t : WordTest) (r : List ℕ) : Type 0 where
@@ -59,23 +60,23 @@ name_word : (b : ℕ) (s : List ℕ) → name_start b ≡ true → Word (front n
 name_word b s h = subst Word (sym (cond-true (name_byte b) (b ∷ front name_byte s) [] (start_is_name b h))) (h, all_front name_byte s)
 
 test_sound : (s : List ℕ) (t : WordTest) (r : List ℕ) → test_at s ≡ Some (t, r) → Tested s t r
-test_sound [] t r e = absurd (none_some (t, r) e)
+test_sound [] t r e = absurd (none-some (t, r) e)
 test_sound (b ∷ s) t r e = ⊎_elim
-    (λ k. subst (λ (p : WordTest × List ℕ). Tested (b ∷ s) p.0 p.1) (some_same (star, s) (t, r) k.1) (record { is = ap (λ z. z ∷ s) (eqb-true b 42 k.0); good = tt; longest = tt }))
+    (λ k. subst (λ (p : WordTest × List ℕ). Tested (b ∷ s) p.0 p.1) (same_Some (star, s) (t, r) k.1) (record { is = ap (λ z. z ∷ s) (eqb-true b 42 k.0); good = tt; longest = tt }))
     (λ k.
     let n = cond_some (name_start b) (Some (named (front name_byte (b ∷ s)), after name_byte (b ∷ s))) (t, r) k.1 in
-    subst (λ (p : WordTest × List ℕ). Tested (b ∷ s) p.0 p.1) (some_same (named (front name_byte (b ∷ s)), after name_byte (b ∷ s)) (t, r) n.1)
+    subst (λ (p : WordTest × List ℕ). Tested (b ∷ s) p.0 p.1) (same_Some (named (front name_byte (b ∷ s)), after name_byte (b ∷ s)) (t, r) n.1)
     (record { is = split name_byte (b ∷ s); good = name_word b s n.0; longest = begins_after name_byte (b ∷ s) }))
     (cond_either (eqb b 42) (Some (star, s)) (cond (name_start b) (Some (named (front name_byte (b ∷ s)), after name_byte (b ∷ s))) None) (t, r) e)
 
 behind_told : (o : Option (Axis × List ℕ)) (w : Wording) (r : List ℕ) → test_behind o ≡ Some (w, r) → (t : List ℕ) × (o ≡ Some (w.axis, t)) × (test_at t ≡ Some (w.test, r))
-behind_told None w r e = absurd (none_some (w, r) e)
+behind_told None w r e = absurd (none-some (w, r) e)
 behind_told (Some a) w r e = go (test_at a.1) refl e
   where
     go : (o : Option (WordTest × List ℕ)) → test_at a.1 ≡ o → with_axis a.0 o ≡ Some (w, r) → (t : List ℕ) × (Some a ≡ Some (w.axis, t)) × (test_at t ≡ Some (w.test, r))
-    go None h e = absurd (none_some (w, r) e)
+    go None h e = absurd (none-some (w, r) e)
     go (Some t) h e =
-        let p = some_same (record { axis = a.0; test = t.0 }, t.1) (w, r) e in
+        let p = same_Some (record { axis = a.0; test = t.0 }, t.1) (w, r) e in
         (a.1, ap (λ (q : Wording × List ℕ). Some (q.0.axis, a.1)) p, h ∙ ap (λ (q : Wording × List ℕ). Some (q.0.test, q.1)) p)
 
 pub step_sound : (s : List ℕ) (w : Wording) (r : List ℕ) → first_step s ≡ Some (w, r) → Begins s w r

@@ -1,13 +1,13 @@
 -- What it means that nothing hinders a node.
 use Rattle.std.proofs.Common.{◌≡◌, ℕ, ◌<◌, ◌≤◌, Bool, true, false, cond, ◌&&◌, eqb, ltb, leb, Some, None, Option, sym, refl, ⊎_elim, arith}
 use Rattle.std.proofs.lemmas.Bool.{ltb-false, leb-false, and_cases}
+use Rattle.std.proofs.lemmas.Option.{none-some}
 use Rattle.plan.specs.declared.counts.Room.{Room}
 use Rattle.plan.specs.declared.fault.Rule.TheVariants.{Outside, LongName, TooDeep, NodesFull, NamesFull}
 use Rattle.plan.specs.Plans.{hindrance}
-use Rattle.names.proofs.Found.{none_some}
 
 cond_none : {A : Type 0} (b : Bool) (x : A) (o : Option A) → cond b (Some x) o ≡ None → (b ≡ false) × (o ≡ None)
-cond_none true x o e = absurd (none_some x (sym e))
+cond_none true x o e = absurd (none-some x (sym e))
 cond_none false x o e = (refl, e)
 
 -- nothing hinders the node

@@ -2,7 +2,8 @@
 use Rattle.std.proofs.Common.{◌≡◌, ℕ, ◌+◌, ◌*◌, ◌/◌, ◌%◌, ◌<◌, ltb, List, [], ◌∷◌, ◌++◌, Some, None, sym, ap, ◌∙◌, ap₂, arith}
 use native.Mathlib.Nat.{div-div-eq-div-mul}
 use Rattle.std.proofs.lemmas.Bool.{cond-true, lt-ltb, ltb-true, and_parts, and_from}
-use Rattle.names.proofs.Found.{cond_some, some_same}
+use Rattle.std.proofs.lemmas.Option.{same_Some}
+use Rattle.names.proofs.Found.{cond_some}
 use Rattle.stored.specs.Bytes.{two, four, two_at, four_at}
 
 pub two_read : (n : ℕ) (s : List ℕ) → n < 65536 → two_at (two n ++ s) ≡ Some (n, s)
@@ -25,7 +26,7 @@ two_is (a ∷ b ∷ s) n r e =
     let p = and_parts (ltb a 256) (ltb b 256) t.0 in
     let high = ltb-true a 256 p.0 in
     let low = ltb-true b 256 p.1 in
-    let same = some_same (a * 256 + b, s) (n, r) t.1 in
+    let same = same_Some (a * 256 + b, s) (n, r) t.1 in
     let is : a * 256 + b ≡ n = ap (λ q. q.0) same in
     let rest : s ≡ r = ap (λ q. q.1) same in
     (ap₂ (λ (x : List ℕ) (y : List ℕ). x ++ y) (sym (two_written a b high low) ∙ ap two is) rest, omega arith)
@@ -62,7 +63,7 @@ four_is (a ∷ b ∷ c ∷ d ∷ s) n r e =
     let p = and_parts _ _ t.0 in
     let q = and_parts _ _ p.1 in
     let u = and_parts _ _ q.1 in
-    let same = some_same (value a b c d, s) (n, r) t.1 in
+    let same = same_Some (value a b c d, s) (n, r) t.1 in
     let is : value a b c d ≡ n = ap (λ z. z.0) same in
     let rest : s ≡ r = ap (λ z. z.1) same in
     ap₂ (λ (x : List ℕ) (y : List ℕ). x ++ y) (sym (four_written a b c d (ltb-true a 256 p.0) (ltb-true b 256 q.0) (ltb-true c 256 u.0) (ltb-true d 256 u.1)) ∙ ap four is) rest

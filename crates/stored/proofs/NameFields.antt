@@ -3,9 +3,10 @@ use Rattle.std.proofs.Common.{◌≡◌, ℕ, zero, suc, ◌≤◌, true, leb, L
 use Rattle.std.specs.List.{flat_map, AllByRecursion}
 use Rattle.std.proofs.lemmas.List.{append-nil, append_assoc, length-append, length-take-le, take_at, drop_at, take-append-drop}
 use Rattle.std.proofs.lemmas.Bool.{cond-true, le-leb, leb-true, and_parts, and_from}
+use Rattle.std.proofs.lemmas.Option.{same_Some}
 use Rattle.names.specs.Lists.{before, good_beside, ShortName, Distinct}
 use Rattle.names.proofs.Finds.{before_le}
-use Rattle.names.proofs.Found.{cond_some, some_same}
+use Rattle.names.proofs.Found.{cond_some}
 use Rattle.names.proofs.Names.{good_to, good_from}
 use Rattle.names.proofs.Firsts.{Good, good_new, distinct_before}
 use Rattle.stored.specs.Images.{name_field}
@@ -38,7 +39,7 @@ field_is ms [] m r e = cc
 field_is ms (k ∷ s) m r e =
     let t = cond_some _ _ _ e in
     let p = and_parts (leb k (length s)) _ t.0 in
-    let same = some_same (take k s, drop k s) (m, r) t.1 in
+    let same = same_Some (take k s, drop k s) (m, r) t.1 in
     let front : take k s ≡ m = ap (λ q. q.0) same in
     let back : drop k s ≡ r = ap (λ q. q.1) same in
     let g = good_to (take k s) ms p.1 in

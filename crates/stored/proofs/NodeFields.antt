@@ -2,7 +2,8 @@
 use Rattle.std.proofs.Common.{◌≡◌, ℕ, zero, suc, ◌+◌, ◌*◌, ◌/◌, ◌%◌, ◌≤◌, max, Bool, true, false, cond, ◌&&◌, ltb, leb, List, [], ◌∷◌, ◌++◌, length, Some, None, Ok, Err, Option, Result, sym, refl, ap, ◌∙◌, subst, ap₂, arith}
 use Rattle.std.specs.List.{flat_map, AllByRecursion}
 use Rattle.std.proofs.lemmas.Bool.{cond-true, lt-ltb, ltb-true, le-leb, leb-true, and_parts, and_from}
-use Rattle.names.proofs.Found.{cond_some, some_same}
+use Rattle.std.proofs.lemmas.Option.{same_Some}
+use Rattle.names.proofs.Found.{cond_some}
 use Rattle.stored.proofs.NameFields.{ok_same}
 use Rattle.tree.specs.Nodes.{Node, shape, chain}
 use Rattle.stored.specs.Bytes.{two}
@@ -63,7 +64,7 @@ field_is (a ∷ b ∷ []) l e r h = cc
 field_is (a ∷ b ∷ f ∷ s) l e r h =
     let t = cond_some _ _ _ h in
     let p = and_parts (ltb a 256) (ltb b 256) t.0 in
-    let same = some_same ((a * 256 + b, f), s) ((l, e), r) t.1 in
+    let same = same_Some ((a * 256 + b, f), s) ((l, e), r) t.1 in
     let rest : f ∷ s ≡ e ∷ r = ap₂ (λ (x : ℕ) (y : List ℕ). x ∷ y) (ap (λ q. q.0.1) same) (ap (λ q. q.1) same) in
     ap₂ (λ (x : List ℕ) (y : List ℕ). x ++ y) (sym (two_written a b (ltb-true a 256 p.0) (ltb-true b 256 p.1)) ∙ ap (λ q. two q.0.0) same) rest
 

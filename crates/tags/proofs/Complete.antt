@@ -2,6 +2,7 @@
 use Rattle.std.proofs.Common.{◌≡◌, ℕ, zero, suc, ◌<◌, Bool, true, false, cond, not, ◌&&◌, eqb, List, [], ◌∷◌, ◌++◌, length, Some, None, Option, sym, refl, ap, ◌∙◌, ap₂, arith}
 use Rattle.std.proofs.lemmas.Bool.{eq-eqb, and_from, and_right, cond-true, cond-false}
 use Rattle.std.specs.List.{AllByRecursion}
+use Rattle.std.proofs.lemmas.Option.{same_Some}
 use Rattle.names.specs.Bytes.{white, name_start, name_byte}
 use Rattle.tags.specs.Values.{quote, in_value}
 use Rattle.tags.specs.Tags.{Tag, start, empty, end, Run, Name, Gap, Value, Attribute, Attributes, none, more, TagAt, closed, quoted, valued, attribute, and_then, attributes, close, opening, ended, ending, inside, scan}
@@ -9,7 +10,6 @@ use Rattle.names.specs.Words.{Word, after, front, begins}
 use Rattle.tags.proofs.Apart.{white_no_name, start_no_white, quote_no_white}
 use Rattle.tags.proofs.Attributes.{shorter}
 use Rattle.names.proofs.Apart.{start_no_slash, start_is_name}
-use Rattle.names.proofs.Found.{some_same}
 use Rattle.names.proofs.Runs.{after_append, front_append}
 use Rattle.tags.specs.Grammar.{OneTag}
 
@@ -129,5 +129,5 @@ scan_complete s (end n) r (a, b, e, na, run) =
 
 pub one_tag : OneTag
 one_tag s t u q r a b =
-    let pair = some_same (t, q) (u, r) (sym (scan_complete s t q a) ∙ scan_complete s u r b) in
+    let pair = same_Some (t, q) (u, r) (sym (scan_complete s t q a) ∙ scan_complete s u r b) in
     (ap (λ (z : Tag × List ℕ). z.0) pair, ap (λ (z : Tag × List ℕ). z.1) pair)

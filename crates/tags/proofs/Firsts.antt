@@ -1,17 +1,17 @@
 -- The first piece of a text, and the tag or byte that the text begins with.
 use Rattle.std.proofs.Common.{◌≡◌, ℕ, suc, ◌<◌, Bool, true, false, cond, eqb, List, [], ◌∷◌, length, Some, None, Option, sym, refl, ap, ◌∙◌, subst, arith}
 use Rattle.std.proofs.lemmas.Bool.{cond-false, eqb-true, eqb-false, ne_eqb}
+use Rattle.std.proofs.lemmas.Option.{none-some, same_Some}
 use Rattle.tags.specs.Tags.{Tag, start, empty, end, TagAt, scan}
 use Rattle.tags.specs.Pieces.{Piece, byte, tag, no_tag, tagged, first, PieceAt}
 use Rattle.tags.proofs.Sound.{scan_sound}
-use Rattle.names.proofs.Found.{none_some, some_same}
 use Rattle.tags.proofs.Complete.{scan_complete}
 use Rattle.tags.proofs.Ends.{scan_shorter}
 
 -- a piece has at least one byte
 pub first_shorter : (s : List ℕ) (p : Piece) (r : List ℕ) → first s ≡ Some (p, r) → length r < length s
-first_shorter [] p r e = absurd (none_some (p, r) e)
-first_shorter (b ∷ s) p r e = go (eqb b 60) (some_same _ (p, r) e)
+first_shorter [] p r e = absurd (none-some (p, r) e)
+first_shorter (b ∷ s) p r e = go (eqb b 60) (same_Some _ (p, r) e)
   where
     tag_shorter : (o : Option (Tag × List ℕ)) → scan (b ∷ s) ≡ o → tagged s o ≡ (p, r) → length r < suc (length s)
     tag_shorter (Some t) d h = omega (arith, scan_shorter (b ∷ s) t.0 t.1 d, ap (λ (z : Piece × List ℕ). length z.1) h)
@@ -24,19 +24,19 @@ first_shorter (b ∷ s) p r e = go (eqb b 60) (some_same _ (p, r) e)
 -- a text with no piece is at its end
 pub first_none : (s : List ℕ) → first s ≡ None → length s ≡ 0
 first_none [] e = refl
-first_none (b ∷ s) e = absurd (none_some _ (sym e))
+first_none (b ∷ s) e = absurd (none-some _ (sym e))
 
 -- the first piece of a text is that of the grammar
 pub piece_at : (s : List ℕ) (p : Piece) (r : List ℕ) → first s ≡ Some (p, r) → PieceAt s p r
-piece_at [] p r e = absurd (none_some (p, r) e)
-piece_at (b ∷ s) p r e = go (eqb b 60) refl (some_same _ (p, r) e)
+piece_at [] p r e = absurd (none-some (p, r) e)
+piece_at (b ∷ s) p r e = go (eqb b 60) refl (same_Some _ (p, r) e)
   where
     move : (q : Piece) (t : List ℕ) → ◌≡◌ {A = Piece × List ℕ} (q, t) (p, r) → PieceAt (b ∷ s) q t → PieceAt (b ∷ s) p r
     move q t h k = subst (λ (z : Piece × List ℕ). PieceAt (b ∷ s) z.0 z.1) h k
 
     at_tag : (o : Option (Tag × List ℕ)) → scan (b ∷ s) ≡ o → eqb b 60 ≡ true → tagged s o ≡ (p, r) → PieceAt (b ∷ s) p r
     at_tag (Some t) d c h = move (tag t.0) t.1 h (scan_sound (b ∷ s) t.0 t.1 d)
-    at_tag None d c h = move no_tag s h (ap (λ (z : ℕ). z ∷ s) (eqb-true b 60 c), λ t q k. none_some (t, q) (sym d ∙ scan_complete (b ∷ s) t q k))
+    at_tag None d c h = move no_tag s h (ap (λ (z : ℕ). z ∷ s) (eqb-true b 60 c), λ t q k. none-some (t, q) (sym d ∙ scan_complete (b ∷ s) t q k))
 
     go : (c : Bool) → eqb b 60 ≡ c → cond c (tagged s (scan (b ∷ s))) (byte b, s) ≡ (p, r) → PieceAt (b ∷ s) p r
     go true d h = at_tag (scan (b ∷ s)) refl d h

@@ -3,11 +3,11 @@ use Rattle.std.proofs.Common.{◌≡◌, ℕ, ◌+◌, ◌-◌, ◌<◌, ◌≤�
 use Rattle.std.proofs.lemmas.List.{take_rest, drop_more, nil_from_length}
 use Rattle.std.proofs.lemmas.List.Prefix.{end_rest}
 use Rattle.std.proofs.lemmas.Bool.{eq-eqb, ne_eqb, cond-true, cond-false}
+use Rattle.std.proofs.lemmas.Option.{none-some, same_Some}
 use Rattle.tags.specs.Tags.{Tag, TagAt, scan, placed}
 use Rattle.tags.specs.Pieces.{Piece, byte, tag, no_tag, tagged, first, next_piece, PieceAt, TagNamed}
 use Rattle.names.proofs.Runs.{at_none}
 use Rattle.tags.proofs.Sound.{scan_sound}
-use Rattle.names.proofs.Found.{none_some, some_same}
 use Rattle.tags.proofs.Firsts.{piece_at, first_none}
 use Rattle.tags.proofs.Named.{tag_named}
 use Rattle.tags.proofs.Ends.{Ends, ends_cons, ends_length, scan_ends}
@@ -18,11 +18,11 @@ from text p = take (length text - p) (drop p text)
 
 -- what was found, apart from its place
 pub placed_some : {A B : Type 0} (p q : ℕ) (x : A) (y : B) (o : Option (A × B)) → Some (q, x, y) ≡ placed p o → (q ≡ p) × (Some (x, y) ≡ o)
-placed_some {A} {B} p q x y (Some z) e = let h = some_same (q, x, y) (p, z.0, z.1) e in (ap (λ (w : ℕ × A × B). w.0) h, ap (λ (w : ℕ × A × B). Some (w.1, w.2)) h)
-placed_some p q x y None e = absurd (none_some (q, x, y) (sym e))
+placed_some {A} {B} p q x y (Some z) e = let h = same_Some (q, x, y) (p, z.0, z.1) e in (ap (λ (w : ℕ × A × B). w.0) h, ap (λ (w : ℕ × A × B). Some (w.1, w.2)) h)
+placed_some p q x y None e = absurd (none-some (q, x, y) (sym e))
 
 pub placed_none : {A B : Type 0} (p : ℕ) (o : Option (A × B)) → None ≡ placed p o → None ≡ o
-placed_none p (Some z) e = absurd (none_some _ e)
+placed_none p (Some z) e = absurd (none-some _ e)
 placed_none p None e = refl
 
 module _ (text : List ℕ) (p : ℕ) (within : p ≤ length text) where

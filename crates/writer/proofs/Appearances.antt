@@ -5,9 +5,10 @@ use Rattle.std.specs.Option.{unwrap_or}
 use Rattle.std.proofs.ByRecursion.{All-push, All-get_or, All-weaker}
 use Rattle.std.proofs.lemmas.List.{get_or-set_same, get_or-set_other, get_or-replicate, get_or-take, map_push, take_all, length_push, length-take-le}
 use Rattle.std.proofs.lemmas.Bool.{ltb-true, lt-ltb, cond-true, cases_eq, cases_lt}
+use Rattle.std.proofs.lemmas.Option.{none-some, same_Some}
 use Rattle.names.specs.Lists.{before, number_of, with_name, ShortName, IsNameList}
 use Rattle.names.specs.NameLists.{named}
-use Rattle.names.proofs.Found.{none_some, some_same, cond_some}
+use Rattle.names.proofs.Found.{cond_some}
 use Rattle.names.proofs.Firsts.{with_known, with_new, firsts_push, number_new, number_other, first_names_few}
 use Rattle.names.proofs.Names.{number_some, number_none}
 use Rattle.tree.specs.Nodes.{Node, nowhere, count, node_at, label_at}
@@ -37,21 +38,21 @@ unwrap_held (suc k) = refl
 
 held_none : (k : ℕ) → held k ≡ None → k ≡ 0
 held_none zero e = refl
-held_none (suc k) e = absurd (none_some (suc k) (sym e))
+held_none (suc k) e = absurd (none-some (suc k) (sym e))
 
 held_more : (k : ℕ) → Some (k + 1) ≡ held (k + 1)
 held_more k = let e = add-one k in ap Some e ∙ ap held (sym e)
 
 none_or_not : (o : Option ℕ) → (o ≡ None) ⊎ (o ≡ None → ⊥)
 none_or_not None = inl refl
-none_or_not (Some k) = inr (λ e. none_some k (sym e))
+none_or_not (Some k) = inr (λ e. none-some k (sym e))
 
 -- what looking a name up by its number tells
 pub named_is : (ms : List (List ℕ)) (k : ℕ) (n : List ℕ) → Some n ≡ named ms k → (1 ≤ k) × (k ≤ length ms) × (n ≡ name_at ms k)
-named_is ms zero n e = absurd (none_some n (sym e))
+named_is ms zero n e = absurd (none-some n (sym e))
 named_is ms (suc k) n e =
     let t = cond_some (ltb k (length ms)) _ n (sym e) in
-    (omega arith, omega (arith, ltb-true k (length ms) t.0), sym (some_same (get_or ms k []) n t.1))
+    (omega arith, omega (arith, ltb-true k (length ms) t.0), sym (same_Some (get_or ms k []) n t.1))
 
 pub name_short : (ms : List (List ℕ)) → IsNameList ms → (k : ℕ) → k ≤ length ms → length (name_at ms k) ≤ 64
 name_short ms list k l =
@@ -63,7 +64,7 @@ named_not ms zero a e = absurd (omega arith)
 named_not ms (suc k) a e =
     ⊎_elim
     (λ (l : length ms < suc k). l)
-    (λ (l : suc k ≤ length ms). absurd (none_some (get_or ms k []) (e ∙ cond-true _ (Some (get_or ms k [])) None (lt-ltb k (length ms) (omega arith)))))
+    (λ (l : suc k ≤ length ms). absurd (none-some (get_or ms k []) (e ∙ cond-true _ (Some (get_or ms k [])) None (lt-ltb k (length ms) (omega arith)))))
     (cases_lt (length ms) (suc k))
 
 all_before : (ms : List (List ℕ)) (ns : List Node) (m : ℕ) → AllByRecursion (Borne ms) (take m ns) → m ≤ count ns → (j : ℕ) → 1 ≤ j → j < m + 1 → label_at ns j ≤ length ms
