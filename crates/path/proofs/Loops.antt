@@ -47,9 +47,6 @@ abbrev any_step : Step
 any_step = record { axis = Child; test = Any }
 
 module _ (ms : List (List ℕ)) (text : List ℕ) (before : List Step) where
-  pub nothing_yet : Sofar ms text before text 0 before
-  nothing_yet = let e : (length before) ≡ (length before) - 0 = omega arith in record { words = []; number = refl; few = omega arith; part = omega arith; read = ap (λ (c : ℕ). read_on c text) e; filled = refl }
-
   module _ (rest : List ℕ) (count : ℕ) (steps : List Step) (so : Sofar ms text before rest count steps) where
     -- as many slots as before
     pub as_long : length steps ≡ length before

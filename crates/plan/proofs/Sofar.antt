@@ -17,18 +17,6 @@ use Rattle.plan.specs.Drafts.{seen, room_of, Follows, SameSlots}
 use Rattle.plan.proofs.Known.{names_many}
 use Rattle.plan.proofs.Outcomes.{run_end, run_more, run_refused, outcome_is}
 
-pub follows_same : (d : Draft) → Follows d d
-follows_same d = record {
-  same_nodes = refl;
-  same_names = refl;
-  node_slots = refl;
-  name_slots = refl;
-  more_nodes = omega arith;
-  more_names = omega arith;
-  nodes = refl;
-  names = refl;
-}
-
 drop_beyond : {X : Type 0} (xs ys : List X) (a b : ℕ) → a ≤ b → drop a xs ≡ drop a ys → drop b xs ≡ drop b ys
 drop_beyond xs ys a b h e =
     let k : a + (b - a) ≡ b = omega arith in
@@ -53,15 +41,6 @@ pub record Sofar (text : List ℕ) (d e : Draft) (reader : Reader) : Type 0 wher
   pub enough : length (ahead reader) ≤ more
   pub left : run (room_of d) (length text) (seen e) (pieces more (length text) (ahead reader)) ≡ outcome (room_of d) text
   pub same : reader.text.now ≡ text
-
-pub begun : (text : List ℕ) (d : Draft) (reader : Reader) → length text ≤ 65536 → seen d ≡ nothing → ahead reader ≡ text → reader.text.now ≡ text → Sofar text d d reader
-begun text d reader short fresh all same = record {
-  follows = follows_same d;
-  more = length text;
-  enough = omega (arith, ap length all);
-  left = (λ i. run (room_of d) (length text) (fresh i) (pieces (length text) (length text) (all i))) ∙ outcome_is (room_of d) text short;
-  same = same;
-}
 
 -- slots that hold what was seen, and otherwise what they held, are filled with it
 read_is : (o : Result Counts PlanFault × Seen) (r : Result Counts PlanFault) (d e : Draft) → Follows d e → (r, seen e) ≡ o → Read o r d.nodes.now e.nodes.now d.names.now e.names.now

@@ -1,14 +1,13 @@
 -- A reader's next piece, by the text and the place.
-use Rattle.std.proofs.Common.{◌≡◌, ℕ, ◌+◌, ◌-◌, ◌<◌, ◌≤◌, eqb, List, [], ◌∷◌, ◌++◌, length, get_or, take, drop, Some, None, Option, sym, refl, ap, ◌∙◌, subst, ap₂, append_assoc, arith, length-drop, take-append-drop}
-use Rattle.std.proofs.lemmas.List.{take_rest, drop_more, nil_from_length}
+use Rattle.std.proofs.Common.{◌≡◌, ℕ, ◌+◌, ◌-◌, ◌<◌, ◌≤◌, eqb, List, ◌∷◌, ◌++◌, length, get_or, take, drop, Some, None, Option, sym, refl, ap, ◌∙◌, subst, ap₂, append_assoc, arith, length-drop, take-append-drop}
+use Rattle.std.proofs.lemmas.List.{take_rest, drop_more}
 use Rattle.std.proofs.lemmas.List.Prefix.{end_rest}
 use Rattle.std.proofs.lemmas.Bool.{eq-eqb, ne_eqb, cond-true, cond-false}
 use Rattle.std.proofs.lemmas.Option.{none-some, same_Some}
 use Rattle.tags.specs.Tags.{Tag, TagAt, scan, placed}
 use Rattle.tags.specs.Pieces.{Piece, byte, tag, no_tag, tagged, first, next_piece, PieceAt, TagNamed}
-use Rattle.names.proofs.Runs.{at_none}
 use Rattle.tags.proofs.Sound.{scan_sound}
-use Rattle.tags.proofs.Firsts.{piece_at, first_none}
+use Rattle.tags.proofs.Firsts.{piece_at}
 use Rattle.tags.proofs.Named.{tag_named}
 use Rattle.tags.proofs.Ends.{Ends, ends_cons, ends_length, scan_ends}
 
@@ -28,9 +27,6 @@ placed_none p None e = refl
 module _ (text : List ℕ) (p : ℕ) (within : p ≤ length text) where
   next_is : (o : Option (Piece × List ℕ)) → o ≡ first (drop p text) → placed p o ≡ next_piece (length text) (drop p text)
   next_is o e = let at : p ≡ length text - length (drop p text) = omega (arith, length-drop p text) in ap₂ placed at e
-
-  pub next_none : length (from text p) < 1 → None ≡ next_piece (length text) (drop p text)
-  next_none h = next_is None (sym (ap first (sym (take_rest text p)) ∙ at_none first (from text p) h))
 
   module _ (some : 1 ≤ length (from text p)) where
     inside : p < length text
@@ -89,6 +85,3 @@ module _ (text : List ℕ) (p : ℕ) (within : p ≤ length text) where
 -- a piece that was found is that of the grammar
 pub found_at : (n : ℕ) (s : List ℕ) (q : ℕ) (p : Piece) (r : List ℕ) → Some (q, p, r) ≡ next_piece n s → PieceAt s p r
 found_at n s q p r e = piece_at s p r (sym (placed_some (n - length s) q p r (first s) e).1)
-
-pub found_none : (n : ℕ) (s : List ℕ) → None ≡ next_piece n s → s ≡ []
-found_none n s e = nil_from_length s (first_none s (sym (placed_none (n - length s) (first s) e)))

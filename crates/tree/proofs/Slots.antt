@@ -17,11 +17,6 @@ pub length_numbered : (i : ℕ) (ss : List Slot) → length (numbered i ss) ≡ 
 length_numbered i [] = refl
 length_numbered i (s ∷ ss) = ap suc (length_numbered (suc i) ss)
 
-pub numbered_at : (i : ℕ) (ss : List Slot) (k : ℕ) (d : Slot) → k < length ss → get_or (numbered i ss) k nowhere ≡ node (i + k) (get_or ss k d)
-numbered_at i [] k d l = absurd (omega arith)
-numbered_at i (s ∷ ss) zero d l = let e : i ≡ i + 0 = omega arith in ap (λ (j : ℕ). node j s) e
-numbered_at i (s ∷ ss) (suc k) d l = let e : suc i + k ≡ i + suc k = omega arith in numbered_at (suc i) ss k d (omega arith) ∙ ap (λ (j : ℕ). node j (get_or ss k d)) e
-
 right_step : (p : Node) (s : Slot) (ss : List Slot) (b : Bool) → shape p.depth s.label s.depth ≡ b → p.origin + length (s ∷ ss) ≤ 65535
     → wrong p.depth (suc p.origin) (s ∷ ss) ≡ None
     → (wrong s.depth (suc (suc p.origin)) ss ≡ None → chain (node (suc p.origin) s) (numbered (suc (suc p.origin)) ss) ≡ true)

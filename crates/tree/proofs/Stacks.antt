@@ -1,23 +1,13 @@
 -- Lists read from their end, as a stack reads its slots.
-use Rattle.std.proofs.Common.{◌≡◌, ℕ, true, false, refl, ◌+◌, ◌-◌, ◌<◌, ◌≤◌, List, [], ◌∷◌, ◌++◌, reverse, length, get_or, take, drop, set, Ok, Err, Result, sym, ap, ◌∙◌, arith}
-use Rattle.std.proofs.lemmas.List.{length-set, reverse-append, length-reverse, length-drop, length-take-le, take-append-drop, take-take, take_more, take_more_set, drop_at}
+use Rattle.std.proofs.Common.{◌≡◌, ℕ, true, false, refl, ◌-◌, ◌<◌, ◌≤◌, List, reverse, length, take, drop, Ok, Err, Result, sym, ap, ◌∙◌, arith}
+use Rattle.std.proofs.lemmas.List.{length-set, reverse-append, length-reverse, length-drop, length-take-le, take-append-drop, take-take, drop_at}
 use Rattle.std.proofs.lemmas.Bool.{both_ways}
 use Rattle.std.specs.Result.{is_err}
 use Rattle.tree.specs.declared.stack.Stack.{Stack}
 use Rattle.tree.specs.Stacks.{items, lent, Pushed, Grown}
 
-pub reverse_push : {T : Type 0} (xs : List T) (x : T) → reverse (xs ++ x ∷ []) ≡ x ∷ reverse xs
-reverse_push xs x = reverse-append xs (x ∷ [])
-
 pub length_items : {T : Type 0} (xs : List T) (n : ℕ) → n ≤ length xs → length (reverse (take n xs)) ≡ n
 length_items xs n h = length-reverse (take n xs) ∙ length-take-le n xs h
-
--- one slot more
-pub items_more : {T : Type 0} (xs : List T) (n : ℕ) (d : T) → n < length xs → reverse (take (n + 1) xs) ≡ get_or xs n d ∷ reverse (take n xs)
-items_more xs n d h = ap reverse (take_more xs n d h) ∙ reverse_push (take n xs) (get_or xs n d)
-
-pub items_set : {T : Type 0} (xs : List T) (n : ℕ) (x : T) → n < length xs → reverse (take (n + 1) (set xs n x)) ≡ x ∷ reverse (take n xs)
-items_set xs n x h = ap reverse (take_more_set xs n x h) ∙ reverse_push (take n xs) x
 
 -- the oldest m of n items
 pub items_cut : {T : Type 0} (xs : List T) (m n : ℕ) → n ≤ length xs → m ≤ n → reverse (take m xs) ≡ drop (n - m) (reverse (take n xs))
@@ -26,13 +16,6 @@ items_cut xs m n h l =
     ap reverse (sym (take-take m n xs l))
     ∙ sym (drop_at (reverse (drop m (take n xs))) (reverse (take m (take n xs))) (n - m) long)
     ∙ ap (drop (n - m)) (sym (reverse-append (take m (take n xs)) (drop m (take n xs))) ∙ ap reverse (take-append-drop m (take n xs)))
-
--- the top item of n + 1, where n is told as one less
-pub items_top : {T : Type 0} (xs : List T) (n : ℕ) (d : T) → 1 ≤ n → n ≤ length xs → reverse (take n xs) ≡ get_or xs (n - 1) d ∷ reverse (take (n - 1) xs)
-items_top xs n d l h = let e : n ≡ n - 1 + 1 = omega arith in ap (λ (k : ℕ). reverse (take k xs)) e ∙ items_more xs (n - 1) d (omega arith)
-
-pub cons_drop : {T : Type 0} (xs : List T) (x : T) (ys : List T) → xs ≡ x ∷ ys → xs ≡ x ∷ drop 1 xs
-cons_drop xs x ys e = e ∙ ap (λ zs. x ∷ drop 1 zs) (sym e)
 
 -- where there is room, a push is not refused
 pub pushed : {T : Type 0} (s : Stack T) (x : T) (r : Result (Unit {0}) T) (t : Stack T) → Pushed s x r t → length (items s) < length (lent s) → Grown s x t

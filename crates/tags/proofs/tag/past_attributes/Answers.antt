@@ -1,12 +1,9 @@
-use Rattle.std.proofs.Common.{◌≡◌, ℕ, true, ◌&&◌, List, length, Some, sym, refl, ap, ◌∙◌, arith}
+use Rattle.std.proofs.Common.{◌≡◌, ℕ, true, ◌&&◌, List, Some, sym, ap, ◌∙◌}
 use Rattle.names.specs.Bytes.{white, name_start}
 use Rattle.names.specs.Words.{after, begins}
 use Rattle.tags.specs.Tags.{attribute}
 use Rattle.tags.proofs.Attributes.{one_more, shorter}
 use Rattle.tags.proofs.tag.past_attributes.Goals as goal
-
-pub loop-next-init : goal.loop-next-init
-loop-next-init c = (length c.args.text.now, omega arith, refl)
 
 begun : (c : goal.In_ok-rest) → (begins white c.loop-next.rest.now && begins name_start (after white c.loop-next.rest.now)) ≡ true
 begun c =

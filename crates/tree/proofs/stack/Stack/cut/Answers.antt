@@ -1,4 +1,4 @@
-use Rattle.std.proofs.Common.{◌≡◌, ℕ, ◌-◌, reverse, length, take, drop, sym, refl, ap, ◌∙◌, arith}
+use Rattle.std.proofs.Common.{ℕ, ◌-◌, reverse, take, drop, sym, refl, ap, ◌∙◌, arith}
 use Rattle.tree.proofs.Stacks.{length_items, items_cut}
 use Rattle.tree.proofs.stack.Stack.cut.Goals as goal
 
@@ -11,10 +11,3 @@ returns-then-height-self g c =
       slots = refl;
       same_reference = refl;
     }
-
-pub returns-else-height-self : goal.returns-else-height-self
-returns-else-height-self g c =
-    let xs = c.args.self.now.slots.now in
-    let n = c.args.self.now.len in
-    let none : length (reverse (take n xs)) - c.args.height ≡ 0 = omega (arith, length_items xs n (omega arith)) in
-    record { items = ap (λ (k : ℕ). drop k (reverse (take n xs))) (sym none); slots = refl; same_reference = refl }
