@@ -84,7 +84,7 @@ module _ (ms : List (List ℕ)) (text : List ℕ) (before : List Step) where
           let z : steps_read ms (length before) text ≡ map (meant ms) so.words = cond-false (wrong_length text) [] (map (meant ms) (read_on (length before) text).words) (right_length text a b) ∙ ap (λ (r : Reading). map (meant ms) r.words) whole in
           so.filled ∙ ap (λ (n : ℕ). map (meant ms) so.words ++ drop n before) (sym (length-map so.words (meant ms) ∙ so.number)) ∙ ap (λ (q : List Step). q ++ drop (length q) before) (sym z)
 
-      pub done : (r : Result ℕ QuestionFault) → r ≡ answered (length text) (record { words = so.words; rest = rest; stop = e }) e → Read ms text before r steps × Spelled (step_room (length before)) text r
+      done : (r : Result ℕ QuestionFault) → r ≡ answered (length text) (record { words = so.words; rest = rest; stop = e }) e → Read ms text before r steps × Spelled (step_room (length before)) text r
       done r is = (
         record {
           value = is ∙ sym value_is ∙ ap (λ (c : ℕ). answer c text) room;
@@ -102,6 +102,16 @@ pushed_more ms text before rest s t p r so g e =
     let more = one_more ms text before rest (length (items s)) (lent s) so p r e (omega (arith, g.room, long)) in
     subst (λ (n : ℕ). Sofar ms text before r n (lent t)) (add-one (length (items s)) ∙ sym (ap length g.after))
     (subst (λ (z : List Step). Sofar ms text before r (length (items s) + 1) z) (sym g.written) more)
+
+-- where reading stops, what is read and how it is spelled are known
+pub stop_told : {ms : List (List ℕ)} {text rest : List ℕ} {before steps : List Step} {count : ℕ}
+    → (so : Sofar ms text before rest count steps) → 1 ≤ length text → length text ≤ 512 → length before ≤ 32 → (e : Stop) → read_on (length before - count) rest ≡ stopped rest e
+    → (r : Result ℕ QuestionFault) → r ≡ answered (length text) (record { words = so.words; rest = rest; stop = e }) e → Read ms text before r steps × Spelled (step_room (length before)) text r
+stop_told {ms} {text} {rest} {before} {steps} {count} so a b few e stops r is = done ms text before rest count steps so a b (sym (min-eq_left few)) e stops r is
+
+-- the same slots under another name
+pub read_same : {ms : List (List ℕ)} {text : List ℕ} {before steps others : List Step} {r : Result ℕ QuestionFault} → others ≡ steps → Read ms text before r steps → Read ms text before r others
+read_same {ms} {text} {before} {r = r} e h = subst (λ (z : List Step). Read ms text before r z) (sym e) h
 
 -- the three ways in which reading stops
 pub stops_at_end : (c : ℕ) (s : List ℕ) → length s ≤ 0 → read_on c s ≡ stopped s at_end
@@ -129,10 +139,6 @@ wrong_told ms text before h =
       },
       spelled_not (step_room (length before)) text (λ a b. ⊎_elim (λ e. omega arith) (λ l. omega arith) h),
     )
-
--- the same slots under another name
-pub read_same : (ms : List (List ℕ)) (text : List ℕ) (before : List Step) (r : Result ℕ QuestionFault) (steps others : List Step) → others ≡ steps → Read ms text before r steps → Read ms text before r others
-read_same ms text before r steps others e h = subst (λ (z : List Step). Read ms text before r z) (sym e) h
 
 drop_take : {X : Type 0} (i m : ℕ) (xs : List X) → i ≤ m → m ≤ length xs → drop i (take m xs) ++ drop m xs ≡ drop i xs
 drop_take zero m xs a b = take-append-drop m xs
