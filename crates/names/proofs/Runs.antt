@@ -1,26 +1,9 @@
 -- The longest run of bytes at the front of a text.
-use Rattle.std.proofs.Common.{◌≡◌, ℕ, ◌-◌, ◌<◌, ◌≤◌, Bool, true, false, cond, List, [], ◌∷◌, ◌++◌, length, get_or, take, drop, sym, refl, ap, ◌∙◌, arith, length-append}
-use Rattle.std.proofs.lemmas.List.{take_rest, take_at}
+use Rattle.std.proofs.Common.{◌≡◌, ℕ, ◌-◌, ◌≤◌, Bool, true, false, cond, List, [], ◌∷◌, ◌++◌, length, take, refl, ap, ◌∙◌, arith, length-append}
+use Rattle.std.proofs.lemmas.List.{take_at}
 use Rattle.std.specs.List.{AllByRecursion}
 use Rattle.std.proofs.lemmas.Bool.{cond-true, cond-false}
 use Rattle.names.specs.Words.{after, front, begins}
-
--- the rest of a text after its first byte, as a slice pattern gives it
-abbrev pub tl : List ℕ → List ℕ
-tl s = take (length s - 1) (drop 1 s)
-
--- a list with a first element is that element and the rest, as a slice pattern gives it
-pub first_and_rest : (s : List ℕ) → 1 ≤ length s → s ≡ get_or s 0 0 ∷ take (length s - 1) (drop 1 s)
-first_and_rest [] h = absurd (omega arith)
-first_and_rest (b ∷ s) h = ap (λ (z : List ℕ). b ∷ z) (sym (take_rest (b ∷ s) 1))
-
--- a function of a text, by its first byte
-pub at_first : {Y : Type 0} (F : List ℕ → Y) (s : List ℕ) → 1 ≤ length s → F s ≡ F (get_or s 0 0 ∷ take (length s - 1) (drop 1 s))
-at_first F s h = ap F (first_and_rest s h)
-
-pub at_none : {Y : Type 0} (F : List ℕ → Y) (s : List ℕ) → length s < 1 → F s ≡ F []
-at_none F [] h = refl
-at_none F (b ∷ s) h = absurd (omega arith)
 
 -- a run and what follows it make up the text
 pub split : (p : ℕ → Bool) (s : List ℕ) → s ≡ front p s ++ after p s

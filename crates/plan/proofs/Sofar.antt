@@ -11,11 +11,11 @@ use Rattle.tags.proofs.Places.{placed_some, placed_none}
 use Rattle.plan.specs.declared.counts.Counts.{Counts}
 use Rattle.plan.specs.declared.draft.Draft.{Draft}
 use Rattle.plan.specs.declared.fault.PlanFault.{PlanFault}
-use Rattle.plan.specs.Plans.{Seen, nothing, room, step, finish_at, finish, run, outcome}
+use Rattle.plan.specs.Plans.{Seen, room, step, finish_at, finish, run, outcome}
 use Rattle.plan.specs.Reads.{name_of, known, Read, Reading}
 use Rattle.plan.specs.Drafts.{seen, room_of, Follows, SameSlots}
 use Rattle.plan.proofs.Known.{names_many}
-use Rattle.plan.proofs.Outcomes.{run_end, run_more, run_refused, outcome_is}
+use Rattle.plan.proofs.Outcomes.{run_end, run_more, run_refused}
 
 drop_beyond : {X : Type 0} (xs ys : List X) (a b : ℕ) → a ≤ b → drop a xs ≡ drop a ys → drop b xs ≡ drop b ys
 drop_beyond xs ys a b h e =

@@ -5,9 +5,6 @@ use Rattle.walk.specs.Walks.{left}
 use Rattle.walk.proofs.Picks.{left_yes, left_no}
 use Rattle.walk.proofs.selected.methods.SelectedIterator.next.Goals as goal
 
-pub advance-requires-clause-within : goal.advance-requires-clause-within
-advance-requires-clause-within g c = let e = ap (λ t. count (g.T.Tree.nodes t.now)) c.loop-node.invariant.tree in omega (arith, e)
-
 pub returns-then-advance : goal.returns-then-advance
 returns-then-advance g c =
     let ns = g.T.Tree.nodes c.args.self.now.tree.now in
