@@ -18,7 +18,7 @@ links c = record { heads = c.heads; nexts = c.nexts }
 abbrev pub unlinked : ℕ → ℕ → Links
 unlinked n m = record { heads = replicate n None; nexts = replicate m None }
 
--- there are such a place and such a key
+-- there are such a place, of the first 65,535, and such a key
 abbrev pub inside : Links → ℕ → ℕ → Bool
 inside l at key = nat_lt at 65535 && (nat_lt at (length l.nexts) && nat_lt key (length l.heads))
 

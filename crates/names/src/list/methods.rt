@@ -11,8 +11,7 @@ use crate::find::find;
 
 pub const MOST_NAMES: usize = 512;
 
-// How long a name can be.
-pub const MOST_BYTES: usize = 64;
+pub const LONGEST_NAME: usize = 64;
 
 fn is_name(name: &[u8]) -> bool
     ensures { result ≡ word name.now }
@@ -27,7 +26,7 @@ fn is_name(name: &[u8]) -> bool
 fn is_short_name(name: &[u8]) -> bool
     ensures { result ≡ short_name name.now }
 {
-    is_name(name) && name.len() <= MOST_BYTES
+    is_name(name) && name.len() <= LONGEST_NAME
 }
 
 // Whether a name is good and not among the others.

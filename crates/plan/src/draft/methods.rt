@@ -11,7 +11,7 @@ use super::{Draft, MOST_DEPTH};
 use crate::counts::{Counts, Room};
 use crate::fault::{PlanFault, Rule};
 use names::bytes::is_white;
-use names::list::methods::{MOST_BYTES, MOST_NAMES};
+use names::list::methods::{LONGEST_NAME, MOST_NAMES};
 use tags::reader::Reader;
 use tags::token::{Piece, Tag, Token};
 use tree::slot::Slot;
@@ -54,7 +54,7 @@ impl<'a> Draft<'_, '_, '_, '_, 'a> {
         let room = self.room();
         if depth == 0 && self.counts.nodes > 0 {
             Err(Rule::Outside)
-        } else if name.len() > MOST_BYTES {
+        } else if name.len() > LONGEST_NAME {
             Err(Rule::LongName)
         } else if depth >= MOST_DEPTH {
             Err(Rule::TooDeep)
