@@ -3,7 +3,6 @@ use Rattle.std.proofs.Common.{◌≡◌, ℕ, zero, suc, ◌+◌, ◌-◌, ◌<�
 use Rattle.std.specs.List.{AllByRecursion}
 use Rattle.std.specs.Option.{option_map, is_some}
 use Rattle.std.specs.Str.{bytes_eq}
-use Rattle.std.proofs.lemmas.Slice.{first_rest}
 use Rattle.std.proofs.lemmas.Slice.Eq.{bytes_eq-Decides}
 use Rattle.std.proofs.lemmas.Bool.{cond-true, cond-false, eq-eqb, ne_eqb, eqb-true, le-leb, leb-true, lt-ltb, le-ltb, and_parts, and_from, both_ways, cases_lt}
 use Rattle.names.specs.declared.list.NoNameList.{NoNameList}
@@ -12,6 +11,7 @@ use Rattle.names.specs.Bytes.{name_start, name_byte}
 use Rattle.names.specs.Words.{Word, after}
 use Rattle.names.specs.Lists.{before, place_of, number_in, number_of, NumberedIn, ShortName, IsNameList, all_in, word, short_name, good_beside, apart, name_list}
 use Rattle.names.proofs.Finds.{before_le}
+use Rattle.names.proofs.Runs.{at_first}
 
 pub all_in_after : (p : ℕ → Bool) (w : List ℕ) → all_in p w ≡ eqb (length (after p w)) 0
 all_in_after p [] = refl
@@ -141,7 +141,7 @@ module _ (s : List ℕ) (h : 1 ≤ length s) where
   word_yes t y e =
       ap (λ (z : List ℕ). eqb (length z) 0) e
       ∙ sym (all_in_after name_byte (take (length s - 1) (drop 1 s)))
-      ∙ sym (ap word (first_rest s 0 (omega arith)) ∙ ap (λ (b : Bool). b && all_in name_byte (take (length s - 1) (drop 1 s))) y)
+      ∙ sym (at_first word s h ∙ ap (λ (b : Bool). b && all_in name_byte (take (length s - 1) (drop 1 s))) y)
 
 -- names that are a list are not refused
 pub set_holds : (new old : List (List ℕ)) (r : Result (Unit {0}) NoNameList) (held : List (List ℕ)) → IsNameList new → Sets new old r held → held ≡ new

@@ -1,9 +1,28 @@
 -- The longest run of bytes at the front of a text.
-use Rattle.std.proofs.Common.{◌≡◌, ℕ, ◌-◌, ◌≤◌, Bool, true, false, cond, List, [], ◌∷◌, ◌++◌, length, take, refl, ap, ◌∙◌, arith, length-append}
-use Rattle.std.proofs.lemmas.List.{take_at}
+use Rattle.std.proofs.Common.{◌≡◌, ℕ, ◌-◌, ◌≤◌, Bool, true, false, cond, List, [], ◌∷◌, ◌++◌, length, get_or, take, drop, sym, refl, ap, ◌∙◌, arith, length-append}
+use Rattle.std.proofs.lemmas.List.{take_rest, take_at}
 use Rattle.std.specs.List.{AllByRecursion}
 use Rattle.std.proofs.lemmas.Bool.{cond-true, cond-false}
 use Rattle.names.specs.Words.{after, front, begins}
+use Rattle.std.proofs.lemmas.Slice.{first_rest}
+
+-- the rest of a text after its first byte, as a slice pattern gives it
+abbrev pub tl : List ℕ → List ℕ
+tl s = take (length s - 1) (drop 1 s)
+
+-- a function of a text, by its first byte
+pub at_first : {Y : Type 0} (F : List ℕ → Y) (s : List ℕ) → 1 ≤ length s → F s ≡ F (get_or s 0 0 ∷ take (length s - 1) (drop 1 s))
+at_first F s h = ap F (first_rest s 0 (omega arith))
+
+-- the rest after two bytes, as a slice pattern gives it
+pub two_and_rest : (s : List ℕ) → 2 ≤ length s → s ≡ get_or s 0 0 ∷ get_or s 1 0 ∷ take (length s - 2) (drop 2 s)
+two_and_rest [] h = absurd (omega arith)
+two_and_rest (a ∷ []) h = absurd (omega arith)
+two_and_rest (a ∷ b ∷ s) h = ap (λ (z : List ℕ). a ∷ b ∷ z) (sym (take_rest (a ∷ b ∷ s) 2))
+
+-- a text that begins with two known bytes
+pub with_two : (s : List ℕ) (a b : ℕ) → 2 ≤ length s → get_or s 0 0 ≡ a → get_or s 1 0 ≡ b → s ≡ a ∷ b ∷ take (length s - 2) (drop 2 s)
+with_two s a b h p q = two_and_rest s h ∙ ap (λ z. z ∷ get_or s 1 0 ∷ take (length s - 2) (drop 2 s)) p ∙ ap (λ z. a ∷ z ∷ take (length s - 2) (drop 2 s)) q
 
 -- a run and what follows it make up the text
 pub split : (p : ℕ → Bool) (s : List ℕ) → s ≡ front p s ++ after p s

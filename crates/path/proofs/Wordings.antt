@@ -1,17 +1,30 @@
 -- The step that a text begins with: it is found exactly if it is there.
-use Rattle.std.proofs.Common.{◌≡◌, ℕ, ◌<◌, ◌≤◌, Bool, true, false, cond, eqb, List, [], ◌∷◌, ◌++◌, length, Some, None, Option, sym, refl, ap, ◌∙◌, subst, ap₂, ⊎_elim, arith}
+use Rattle.std.proofs.Common.{◌≡◌, ℕ, ◌-◌, ◌<◌, ◌≤◌, Bool, true, false, cond, eqb, List, [], ◌∷◌, ◌++◌, length, get_or, take, drop, Some, None, Option, sym, refl, ap, ◌∙◌, subst, ap₂, ⊎_elim, arith}
 use Rattle.std.specs.List.{AllByRecursion}
 use Rattle.std.proofs.lemmas.List.{append_assoc, length-append}
+use Rattle.std.proofs.lemmas.Slice.{first_rest}
 use Rattle.std.proofs.lemmas.Bool.{eqb-true, cond-true, cond-false}
 use Rattle.std.proofs.lemmas.Option.{none-some, same_Some}
 use Rattle.names.specs.Bytes.{name_start, name_byte}
 use Rattle.names.specs.Words.{Word, front, after}
 use Rattle.names.proofs.Apart.{start_is_name, start_no_slash, start_no_star}
 use Rattle.names.proofs.Found.{cond_some, cond_either}
-use Rattle.names.proofs.Runs.{split, all_front, begins_after, after_append, front_append}
+use Rattle.names.proofs.Runs.{tl, split, all_front, begins_after, after_append, front_append}
 use Rattle.tree.specs.declared.step.Axis.{Axis}
 use Rattle.tree.specs.declared.step.Axis.TheVariants.{Child, Descendant}
 use Rattle.path.specs.Wordings.{WordTest, star, named, Wording, slashes, test_bytes, written, Good, Longest, Begins, axis_behind, axis_at, test_at, with_axis, test_behind, first_step}
+use Rattle.path.specs.Reads.{test_of}
+use Rattle.tree.specs.declared.step.Test.TheVariants.{Any}
+
+pub test_star : (ms : List (List ℕ)) (s : List ℕ) → 1 ≤ length s → get_or s 0 0 ≡ 42 → Some (Any, take (length s - 1) (drop 1 s)) ≡ test_of ms s
+test_star ms s h a = sym (ap (test_of ms) (first_rest s 0 (omega arith) ∙ ap (λ b. b ∷ take (length s - 1) (drop 1 s)) a))
+
+module _ (s : List ℕ) (h : 1 ≤ length s) (a : get_or s 0 0 ≡ 47) where
+  axis_yes : axis_at s ≡ Some (axis_behind (tl s))
+  axis_yes = ap axis_at (first_rest s 0 (omega arith) ∙ ap (λ b. b ∷ tl s) a)
+
+  pub axis_two : 1 ≤ length (tl s) → get_or (tl s) 0 0 ≡ 47 → Some (Descendant, tl (tl s)) ≡ axis_at s
+  axis_two l b = sym (axis_yes ∙ ap (λ (t : List ℕ). Some (axis_behind t)) (first_rest (tl s) 0 (omega arith) ∙ ap (λ b. b ∷ tl (tl s)) b))
 
 -- the step that is found is there
 behind_sound : (s : List ℕ) (x : Axis) (r : List ℕ) → axis_behind s ≡ (x, r) → 47 ∷ s ≡ slashes x ++ r
