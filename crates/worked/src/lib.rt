@@ -99,10 +99,7 @@ mod tests {
             outcome(b" ".repeat(heap, 65536)?.as_slice()),
             Err((5, 65536))
         );
-        assert_eq!(rt;
-            outcome(b" ".repeat(heap, 65537)?.as_slice()),
-            Err((1, 0))
-        );
+        assert_eq!(rt; outcome(b" ".repeat(heap, 65537)?.as_slice()), Err((1, 0)));
         Ok(())
     }
 
