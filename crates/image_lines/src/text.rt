@@ -135,8 +135,8 @@ mod tests {
     #[test]
     fn an_image_is_read_back_or_refused(rt: HostRuntime) -> Result<(), Fail> {
         let heap = rt.alloc();
-        assert!(rt; read_back(heap, &SMALL)?.as_slice() == b"1 1 A\n2 2 B\n");
-        assert!(rt; read_back(heap, &SMALL[..18])?.as_slice() == b"refused 11 at 0\n");
+        assert!(rt; read_back(heap, &SMALL)?.as_slice() == b"1 1 A\n2 2 B\n".as_slice());
+        assert!(rt; read_back(heap, &SMALL[..18])?.as_slice() == b"refused 11 at 0\n".as_slice());
         Ok(())
     }
 }
