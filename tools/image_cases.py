@@ -91,6 +91,7 @@ def inputs():
         yield framed(names + b"\0\2\0\1" + bytes([depth]) + b"\0\2\2")
         yield framed(names + b"\0\2\0\1\1\0\2" + bytes([depth]))
         yield framed(names + b"\0\3\0\1\1\0\2\2\0\2" + bytes([depth]))
+    yield framed(b"\0\1\1A")
     yield framed(names + nodes + b"\0")
     yield framed(names + b"\0\1\0\1\1")
     yield framed(names + b"\0\1\0\1\1" + b"\0")
@@ -146,9 +147,12 @@ def views():
     yield from (written(room, SMALL) for room in (18, 19, 21))
     yield "1 2\n"
     yield "1 2\n"
-    yield written(16, framed(b"\0\1\1B\0\1\0\1\1"))
+    yield from (written(room, framed(b"\0\1\1B\0\1\0\1\1")) for room in (13, 16))
     yield "1 1\n"
     yield written(16, framed(b"\0\1\1A\0\1\0\1\1"))
+    yield "refused 15 at 45577\n"
+    yield "45577 bytes written\n"
+    yield "refused 16 at 4096\n"
 
 
 def changes():

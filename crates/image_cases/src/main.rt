@@ -12,6 +12,8 @@ use std::alloc::{AllocError, Global};
 use std::io;
 use std::io::{BufRead, BufReader};
 use tree::refusal::Refusal;
+use tree::slot::Slot;
+use tree::table::Table;
 use tree::trees::Tree;
 use views::branch::Branch;
 use views::hide::Hide;
@@ -22,6 +24,8 @@ static SMALL: [u8; 19] = [
     0x01, 0x00, 0x00, 0x00, 0x0E, 0x00, 0x02, 0x01, 0x41, 0x01, 0x42, 0x00, 0x02, 0x00, 0x01, 0x01,
     0x00, 0x02, 0x02,
 ];
+
+static ONE_NAME: [&[u8]; 1] = [b"A"];
 
 // An image at the limits. The names have `length` bytes each, node k bears name k or the last one, and all nodes
 // but the first have depth 2, or each is below the one before.
@@ -236,6 +240,48 @@ fn print_writing<T: Tree>(
     println!(rt; "")
 }
 
+// The answer alone, where there would be many bytes.
+fn print_answer<T: Tree>(
+    rt: &HostRuntime,
+    tree: &T,
+    names: &NameList<'_, '_>,
+    room: usize,
+) -> io::Result<()> {
+    let mut out = vec![in rt.alloc(); 0xAA; room]?;
+    match write(tree, names, out.as_mut_slice()) {
+        Ok(length) => println!(rt; "{length} bytes written"),
+        Err(fault) => println!(rt; "{}", fault.told()),
+    }
+}
+
+// A longest image is written, and needs each of its bytes.
+fn print_longest(rt: &HostRuntime) -> io::Result<()> {
+    let bytes = image_of(rt.alloc(), LARGEST)?;
+    let mut image = Image::new();
+    let _ = image.open(bytes.as_slice());
+    let mut slots = [&SMALL[0..0]; 512];
+    let names = image.names(&mut slots);
+    print_answer(rt, &image, &names, 45576)?;
+    print_answer(rt, &image, &names, 45577)
+}
+
+// The last of the nodes has a label above the number of names.
+fn print_last_nameless(rt: &HostRuntime) -> io::Result<()> {
+    let node = Slot {
+        label: 1,
+        depth: 2,
+        place: 0,
+    };
+    let mut slots = vec![in rt.alloc(); Slot { depth: 1, ..node }]?;
+    slots.extend_from_slice(&[node; 4094])?;
+    slots.push(Slot { label: 2, ..node })?;
+    let mut table = Table::new();
+    let _ = table.set(slots.as_slice());
+    let mut names = NameList::new();
+    let _ = names.set(&ONE_NAME);
+    print_answer(rt, &table, &names, 45577)
+}
+
 // The walk and the views over an image, and its image again.
 fn print_views(rt: &HostRuntime) -> io::Result<()> {
     let mut image = Image::new();
@@ -253,6 +299,7 @@ fn print_views(rt: &HostRuntime) -> io::Result<()> {
     let mut branch = Branch::new(image);
     let _ = branch.set(2);
     rt.print(answer(rt.alloc(), &branch, &names, b"/B")?)?;
+    print_writing(rt, &branch, &names, 13)?;
     print_writing(rt, &branch, &names, 16)?;
     let mut hide = Hide::new(image);
     let _ = hide.set(&[2]);
@@ -267,5 +314,7 @@ fn main(rt: HostRuntime) -> io::Result<()> {
         print_changes_at(&rt, at, byte)?;
     }
     print_limits(&rt)?;
-    print_views(&rt)
+    print_views(&rt)?;
+    print_longest(&rt)?;
+    print_last_nameless(&rt)
 }
