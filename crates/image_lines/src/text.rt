@@ -9,32 +9,23 @@ use answers::line::refused;
 use image::image::Image;
 use names::list::NameList;
 use std::alloc::{AllocError, Global};
+use std::fmt::Write;
 use tree::trees::Tree;
 use writer::write::write;
 
 // No image is longer.
 const MOST_BYTES: usize = 45577;
 
-// A table, since the proof over `{:02X}` did not close.
-static DIGITS: &[u8; 16] = b"0123456789ABCDEF";
-
-fn hex_digit(n: u8) -> u8
-    requires { n < 16 }
-    ensures { result ≡ slice_index (codes "0123456789ABCDEF") n }
-{
-    DIGITS[n as usize]
-}
-
 // One line with all bytes.
 pub fn hex_bytes(heap: Global, bytes: &[u8]) -> Result<Vec<u8>, AllocError>
     ensures { IfOk result (λ text. text.items ≡ hex_line bytes.now) }
 {
-    let mut text = Vec::from_slice(heap, b"image")?;
-    for &byte in bytes {
-        text.extend_from_slice(&[b' ', hex_digit(byte / 16), hex_digit(byte % 16)])?;
+    let mut text = String::from_str(heap, "image")?;
+    for byte in bytes {
+        write!(text, " {byte:02X}")?;
     }
-    text.push(b'\n')?;
-    Ok(text)
+    text.push('\n')?;
+    Ok(text.into_bytes())
 }
 
 // The line of a node.
