@@ -1,5 +1,5 @@
 // The bytes of an image in hexadecimal, and a line for each node.
-ghost use Rattle.std.specs.Prelude.{◌≡◌, ◌<◌, length, IfOk, codes, slice_index};
+ghost use Rattle.std.specs.Prelude.{◌≡◌, length, IfOk};
 ghost use Rattle.names.specs.NameLists.{listed};
 ghost use Rattle.stored.specs.Openings.{opened};
 ghost use Rattle.stored.specs.Plans.{name_at};
