@@ -1,5 +1,6 @@
 // Places that hold the same key form a chain, the newest first.
 ghost use Rattle.std.specs.Prelude.{◌≡◌, length};
+ghost use Rattle.chains.specs.Places.{Few};
 
 pub mod methods;
 
@@ -13,4 +14,6 @@ pub struct Chain<const KEYS: usize, const PLACES: usize> {
     nexts: [Option<u16>; PLACES],
     ghost keys: { length heads ≡ KEYS },
     ghost places: { length nexts ≡ PLACES },
+    ghost newest: { Few heads },
+    ghost older: { Few nexts },
 }

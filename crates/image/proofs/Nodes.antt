@@ -2,7 +2,7 @@
 use Rattle.std.specs.Simd.{first_chunks}
 use Rattle.std.specs.List.{slice_get}
 use Rattle.std.specs.Option.{option_map, unwrap_or}
-use Rattle.std.proofs.Common.{◌≡◌, ℕ, zero, suc, ◌+◌, ◌*◌, ◌/◌, ◌≤◌, true, List, [], ◌∷◌, length, get_or, refl, ap, ◌∙◌, sym, arith}
+use Rattle.std.proofs.Common.{◌≡◌, ℕ, zero, suc, ◌+◌, ◌-◌, ◌*◌, ◌/◌, ◌<◌, ◌≤◌, true, List, [], ◌∷◌, length, get_or, refl, ap, ◌∙◌, sym, arith}
 use Rattle.tree.specs.Nodes.{Node, nowhere, node_at, node_limit, lawful}
 use Rattle.tree.specs.Laws.{lawful_laws}
 use Rattle.stored.specs.Openings.{nodes_in}
@@ -38,3 +38,34 @@ chunks_from i (suc k) (a ∷ b ∷ d ∷ s) e = ap (λ (ns : List Node). record 
 -- the bytes of an image, three by three
 pub chunks_nodes : (s : List ℕ) → numbered 1 (first_chunks 3 (length s / 3) s) ≡ nodes_in 1 s
 chunks_nodes s = chunks_from 1 (length s / 3) s refl
+
+abbrev node_of : ℕ → List ℕ → ℕ → Node
+node_of o s at = record { label = get_or s at 0 * 256 + get_or s (at + 1) 0; depth = get_or s (at + 2) 0; origin = o }
+
+later : (o : ℕ) (a b e : ℕ) (s : List ℕ) (k : ℕ) → node_of o s (3 * k) ≡ node_of o (a ∷ b ∷ e ∷ s) (3 * suc k)
+later o a b e s k =
+    let at : 3 * suc k ≡ suc (suc (suc (3 * k))) = omega arith in
+    let next : 3 * suc k + 1 ≡ suc (suc (suc (3 * k + 1))) = omega arith in
+    let last : 3 * suc k + 2 ≡ suc (suc (suc (3 * k + 2))) = omega arith in
+    λ j. record {
+      label = get_or (a ∷ b ∷ e ∷ s) (sym at j) 0 * 256 + get_or (a ∷ b ∷ e ∷ s) (sym next j) 0;
+      depth = get_or (a ∷ b ∷ e ∷ s) (sym last j) 0;
+      origin = o;
+    }
+
+node_in : (i : ℕ) (s : List ℕ) (k : ℕ) → k < length s / 3 → get_or (nodes_in i s) k nowhere ≡ node_of (i + k) s (3 * k)
+node_in i [] k l = absurd (omega arith)
+node_in i (a ∷ []) k l = absurd (omega arith)
+node_in i (a ∷ b ∷ []) k l = absurd (omega arith)
+node_in i (a ∷ b ∷ e ∷ s) zero l = let here : i ≡ i + 0 = omega arith in ap (λ (o : ℕ). record { label = a * 256 + b; depth = e; origin = o }) here
+node_in i (a ∷ b ∷ e ∷ s) (suc k) l =
+    let o : suc i + k ≡ i + suc k = omega arith in
+    node_in (suc i) s k (omega arith) ∙ ap (λ (j : ℕ). node_of j s (3 * k)) o ∙ later (i + suc k) a b e s k
+
+-- the node with a number
+pub node_shown_at : (s : List ℕ) (k : ℕ) → (k ≡ 0 → ⊥) → k ≤ length s / 3 → node_at (nodes_in 1 s) k ≡ node_of k s (3 * (k - 1))
+node_shown_at s zero n l = absurd (n refl)
+node_shown_at s (suc k) n l =
+    let o : 1 + k ≡ suc k = omega arith in
+    let less : k ≡ suc k - 1 = omega arith in
+    node_in 1 s k (omega arith) ∙ ap (λ (j : ℕ). node_of j s (3 * k)) o ∙ ap (λ (j : ℕ). node_of (suc k) s (3 * j)) less

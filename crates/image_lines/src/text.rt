@@ -1,5 +1,5 @@
 // The bytes of an image in hexadecimal, and a line for each node.
-ghost use Rattle.std.specs.Prelude.{◌≡◌, length, IfOk};
+ghost use Rattle.std.specs.Prelude.{◌≡◌, ◌<◌, length, IfOk, codes, slice_index};
 ghost use Rattle.names.specs.NameLists.{listed};
 ghost use Rattle.stored.specs.Openings.{opened};
 ghost use Rattle.stored.specs.Plans.{name_at};
@@ -9,23 +9,34 @@ use answers::line::refused;
 use image::image::Image;
 use names::list::NameList;
 use std::alloc::{AllocError, Global};
-use std::fmt::Write;
 use tree::trees::Tree;
 use writer::write::write;
 
 // No image is longer.
 const MOST_BYTES: usize = 45577;
 
+// A table and no format: over `{:02X}` a long image took five times as long.
+static DIGITS: [u8; 16] = [
+    b'0', b'1', b'2', b'3', b'4', b'5', b'6', b'7', b'8', b'9', b'A', b'B', b'C', b'D', b'E', b'F',
+];
+
+fn hex_digit(n: u8) -> u8
+    requires { n < 16 }
+    ensures { result ≡ slice_index (codes "0123456789ABCDEF") n }
+{
+    DIGITS[n as usize]
+}
+
 // One line with all bytes.
 pub fn hex_bytes(heap: Global, bytes: &[u8]) -> Result<Vec<u8>, AllocError>
     ensures { IfOk result (λ text. text.items ≡ hex_line bytes.now) }
 {
-    let mut text = String::from_str(heap, "image")?;
-    for byte in bytes {
-        write!(text, " {byte:02X}")?;
+    let mut text = Vec::from_slice(heap, b"image")?;
+    for &byte in bytes {
+        text.extend_from_slice(&[b' ', hex_digit(byte / 16), hex_digit(byte % 16)])?;
     }
-    text.push('\n')?;
-    Ok(text.into_bytes())
+    text.push(b'\n')?;
+    Ok(text)
 }
 
 // The line of a node.

@@ -9,7 +9,7 @@ use Rattle.names.specs.declared.list.NoNameList.{NoNameList}
 use Rattle.names.specs.NameLists.{Sets}
 use Rattle.names.specs.Bytes.{name_start, name_byte}
 use Rattle.names.specs.Words.{Word, after}
-use Rattle.names.specs.Lists.{before, place_of, number_in, number_of, NumberedIn, ShortName, IsNameList, all_in, word, short_name, good_beside, apart, name_list}
+use Rattle.names.specs.Lists.{before, place_of, number_in, number_of, Numbered, NumberedIn, ShortName, IsNameList, all_in, word, short_name, good_beside, apart, name_list}
 use Rattle.names.proofs.Finds.{before_le}
 use Rattle.names.proofs.Runs.{at_first}
 
@@ -111,6 +111,13 @@ list_apart ms l = apart_from ms l.names l.distinct
 not_not : (b c : Bool) → b ≡ not c → c ≡ not b
 not_not b true e = ap not (sym e)
 not_not b false e = ap not (sym e)
+
+-- the number of a name means what it says
+pub numbered : (n : List ℕ) (ms : List (List ℕ)) → Numbered ms n (number_of n ms)
+numbered n ms = ⊎_elim
+    (λ (l : before n ms < length ms). subst (Numbered ms n) (sym (cond-true (ltb (before n ms) (length ms)) (suc (before n ms)) 0 (lt-ltb (before n ms) (length ms) l))) (l, before_is n ms l))
+    (λ (l : length ms ≤ before n ms). subst (Numbered ms n) (sym (cond-false (ltb (before n ms) (length ms)) (suc (before n ms)) 0 (le-ltb (before n ms) (length ms) l))) (λ k h e. omega (arith, before_first n ms k h e)))
+    (cases_lt (before n ms) (length ms))
 
 pub numbered_in : (n : List ℕ) (ms : List (List ℕ)) → NumberedIn ms n (number_in n ms)
 numbered_in n ms = ⊎_elim

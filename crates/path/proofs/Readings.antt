@@ -1,7 +1,7 @@
 -- What reading a question text finds, and when a text is steps written one after another.
-use Rattle.std.proofs.Common.{◌≡◌, ℕ, zero, suc, ◌≤◌, Bool, false, ◌||◌, ltb, List, [], ◌∷◌, ◌++◌, length, Some, None, Ok, Err, Option, Result, sym, refl, ap, ◌∙◌, subst, arith}
+use Rattle.std.proofs.Common.{◌≡◌, ℕ, zero, suc, ◌≤◌, Bool, false, ◌||◌, ltb, List, [], ◌∷◌, ◌++◌, length, map, Some, None, Ok, Err, Option, Result, sym, refl, ap, ◌∙◌, subst, arith}
 use Rattle.std.specs.List.{flat_map, AllByRecursion}
-use Rattle.std.proofs.lemmas.List.{length-append}
+use Rattle.std.proofs.lemmas.List.{length-append, length-map}
 use Rattle.std.proofs.lemmas.Bool.{ne_eqb, le-ltb, cond-false}
 use Rattle.std.proofs.lemmas.Option.{none-some}
 use Rattle.names.specs.Bytes.{name_byte}
@@ -9,8 +9,8 @@ use Rattle.names.specs.Words.{begins}
 use Rattle.tree.specs.declared.step.Axis.TheVariants.{Child, Descendant}
 use Rattle.path.specs.declared.fault.QuestionFault.{QuestionFault}
 use Rattle.path.specs.declared.fault.QuestionFault.TheVariants.{Length}
-use Rattle.path.specs.Wordings.{WordTest, star, named, Wording, slashes, test_bytes, written, Good, Longest, Steps, none, more, first_step}
-use Rattle.path.specs.Questions.{Stop, at_end, no_step, enough, Reading, stopped, behind, ending, read_on, IsNoStep, Stops, Reads, wrong_length, answered, answer, Spelled}
+use Rattle.path.specs.Wordings.{WordTest, star, named, meant, Wording, slashes, test_bytes, written, Good, Longest, Steps, none, more, first_step}
+use Rattle.path.specs.Questions.{Stop, at_end, no_step, enough, Reading, stopped, behind, ending, read_on, IsNoStep, Stops, Reads, wrong_length, answered, answer, steps_read, Spelled}
 use Rattle.path.proofs.Wordings.{step_sound, step_complete, test_some}
 
 no_step_here : (s : List ℕ) → first_step s ≡ None → IsNoStep s
@@ -107,3 +107,10 @@ module _ (c : ℕ) (s : List ℕ) (a : 1 ≤ length s) (b : length s ≤ 512) wh
 -- no text of a wrong length is steps
 pub spelled_not : (c : ℕ) (s : List ℕ) → (1 ≤ length s → length s ≤ 512 → ⊥) → Spelled c s (Err Length)
 spelled_not c s n ws w = n (written_some ws s w.some w.good w.is) w.short
+
+-- the steps of an accepted text are as many as are answered
+pub steps_answered : (ms : List (List ℕ)) (c : ℕ) (s : List ℕ) (n : ℕ) → Spelled c s (Ok n) → (n ≡ length (steps_read ms c s)) × (1 ≤ n) × (n ≤ c)
+steps_answered ms c s n (ws, w, k, e) =
+    let right = right_length s (written_some ws s w.some w.good w.is) w.short in
+    let are : steps_read ms c s ≡ map (meant ms) ws = cond-false (wrong_length s) [] (map (meant ms) (read_on c s).words) right ∙ ap (map (meant ms)) e in
+    (k ∙ sym (length-map ws (meant ms)) ∙ ap length (sym are), omega (arith, w.some), omega (arith, w.few))

@@ -50,8 +50,10 @@ impl<K, T> Tree for View<K, T> {
     }
 
     fn node(&self, number: u16) -> Node {
-        let at = number.checked_sub(1);
-        let node = at.and_then(|at| self.shown.row.as_slice().get(at as usize));
-        node.copied().unwrap_or_default()
+        let at = usize::from(number).checked_sub(1);
+        match at.and_then(|at| self.shown.row.as_slice().get(at)) {
+            Some(node) => *node,
+            None => Node::default(),
+        }
     }
 }

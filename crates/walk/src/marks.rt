@@ -11,7 +11,7 @@ pub struct Marks {
     over: u64,
 }
 
-// A number of steps is told with its bound, here and below: a type for it would wrap each index of an iterator.
+// A number of steps is told with its bound, here and below: a type for it would wrap the length of a slice.
 fn bit(word: u64, i: usize) -> bool
     requires { i ≤ 32 }
     ensures { result ≡ bit_at word i }
@@ -42,14 +42,6 @@ impl Marks {
         }
     }
 
-    // Whether a child with this label ends one step more.
-    fn leads(self, step: Step, i: usize, label: u16) -> bool
-        requires { i < 32 }
-        ensures { result ≡ hit step i self label }
-    {
-        step.test.admits(label) && bit(self.from(step.axis), i)
-    }
-
     // The marks of a child with this label.
     pub fn child(self, steps: &[Step], label: u16) -> Marks
         requires { length steps.now ≤ 32 }
@@ -58,10 +50,13 @@ impl Marks {
         ensures over { result.over ≡ bit_or result.here self.over }
     {
         let mut here = 0;
-        for (i, &step) in steps.iter().enumerate() {
-            if self.leads(step, i, label) {
-                here |= 1 << (i + 1);
+        // Bit i at the step after i others. It is carried: with two shifts a step a long question took more than twice the time.
+        let mut mark = 1;
+        for step in steps {
+            if step.test.admits(label) {
+                here |= 2 * (self.from(step.axis) & mark);
             }
+            mark *= 2;
         }
         Marks {
             here,

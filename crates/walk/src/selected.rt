@@ -20,8 +20,11 @@ pub struct Selected<'t, 's, 'm, T: Tree> {
     steps: &'s [Step],
     marks: Stack<'m, Marks>,
     node: u16,
+    // how many nodes the tree has, asked once: another's tree may have to count them
+    count: u16,
     ghost question: { Question steps.now },
     ghost room: { length (lent marks) ≡ 65 },
     ghost within: { node ≤ many (T.Tree.nodes tree.now) },
+    ghost counted: { count ≡ many (T.Tree.nodes tree.now) },
     ghost marked: { Open (T.Tree.nodes tree.now) steps.now node (items marks) } by { open_once (T.Tree.nodes tree.now) steps.now node (items marks) },
 }

@@ -1,5 +1,5 @@
 // Making chains, following them, and adding places to them.
-ghost use Rattle.std.specs.Prelude.{◌≡◌, None, slice_index_or};
+ghost use Rattle.std.specs.Prelude.{◌≡◌, ◌<◌, None, IfSome, slice_index_or};
 ghost use Rattle.chains.specs.Chains.{links, unlinked, hooked};
 
 use super::Chain;
@@ -17,7 +17,8 @@ impl<const KEYS: usize, const PLACES: usize> Chain<KEYS, PLACES> {
 
     // The newest place that holds the key.
     pub fn first(&self, key: u16) -> Option<u16>
-        ensures { result ≡ slice_index_or (links self.now).heads key None }
+        ensures value { result ≡ slice_index_or (links self.now).heads key None }
+        ensures bound { IfSome result (λ at. at < 65535) }
     {
         if key as usize >= KEYS {
             return None;
@@ -27,7 +28,8 @@ impl<const KEYS: usize, const PLACES: usize> Chain<KEYS, PLACES> {
 
     // The place before `at` that holds the same key.
     pub fn before(&self, at: u16) -> Option<u16>
-        ensures { result ≡ slice_index_or (links self.now).nexts at None }
+        ensures value { result ≡ slice_index_or (links self.now).nexts at None }
+        ensures bound { IfSome result (λ at. at < 65535) }
     {
         if at as usize >= PLACES {
             return None;

@@ -75,8 +75,8 @@ impl<'a> Image<'a> {
     fn field(&self, number: u16) -> Option<&'a [u8; 3]>
         ensures { option_copied result ≡ field_at self.now.nodes.now number }
     {
-        let at = number.checked_sub(1)?;
-        self.nodes.get(at as usize)
+        let at = usize::from(number).checked_sub(1)?;
+        self.nodes.get(at)
     }
 }
 

@@ -51,8 +51,8 @@ impl<'a> Table<'a> {
     fn slot(&self, number: u16) -> Option<Slot>
         ensures { result ≡ slot_at (shown self.now) number }
     {
-        let at = number.checked_sub(1)?;
-        self.slots.get(at as usize).copied()
+        let at = usize::from(number).checked_sub(1)?;
+        self.slots.get(at).copied()
     }
 
     // Shows these slots from now on, or refuses them and shows what it showed.

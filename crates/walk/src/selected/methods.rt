@@ -25,6 +25,7 @@ impl<'t, 's, 'm, T: Tree> Selected<'t, 's, 'm, T> {
             steps,
             marks,
             node: 0,
+            count: tree.count(),
         }
     }
 
@@ -55,7 +56,7 @@ impl<'t, 's, 'm, T: Tree> Iterator for Selected<'t, 's, 'm, T> {
 
     #[inline]
     fn next(&mut self) -> Option<u16> {
-        for node in self.node + 1..=self.tree.count() {
+        for node in self.node + 1..=self.count {
             if self.advance(node) {
                 return Some(self.tree.origin(node));
             }

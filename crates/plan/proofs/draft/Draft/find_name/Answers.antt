@@ -17,7 +17,7 @@ within : (c : In-Some) → c.in-Some.at < c.args.self.now.counts.names
 within c = omega (arith, sought_within (names_of c.args.self.now) (links c.args.self.now.chain) c.args.name.now c.args.self.now.findable c.in-Some.at (sought c), names_many c.args.self.now)
 
 pub loop-place-init : goal.loop-place-init
-loop-place-init c = subst (Sought (names_of c.args.self.now) c.args.name.now) (sym c.first-place.ensures) (sought_first (names_of c.args.self.now) (links c.args.self.now.chain) c.args.name.now c.args.self.now.findable c.hash.result c.hash.ensures)
+loop-place-init c = subst (Sought (names_of c.args.self.now) c.args.name.now) (sym c.first-place.ensures.value) (sought_first (names_of c.args.self.now) (links c.args.self.now.chain) c.args.name.now c.args.self.now.findable c.hash.result c.hash.ensures)
 
 pub returns-then-eq : goal.returns-then-eq
 returns-then-eq c =
@@ -29,12 +29,12 @@ pub loop-place-smaller : goal.loop-place-smaller
 loop-place-smaller c =
     let h = (goal.at.loop-place-smaller c).In-Some in
     let less = sought_less (names_of c.args.self.now) (links c.args.self.now.chain) c.args.name.now c.args.self.now.findable c.in-Some.at (sought h) in
-    omega (arith, less, ap upto c.before-place.ensures, ap upto c.in-Some.is)
+    omega (arith, less, ap upto c.before-place.ensures.value, ap upto c.in-Some.is)
 
 pub loop-place-preserved : goal.loop-place-preserved
 loop-place-preserved c =
     let h = (goal.at.loop-place-preserved c).In-Some in
-    subst (Sought (names_of c.args.self.now) c.args.name.now) (sym c.before-place.ensures)
+    subst (Sought (names_of c.args.self.now) c.args.name.now) (sym c.before-place.ensures.value)
     (sought_more (names_of c.args.self.now) (links c.args.self.now.chain) c.args.name.now c.args.self.now.findable c.in-Some.at (sought h)
     (λ e. both_ways _ c.if-eq.false ((slice_eq-Decides Decides-eqb _ _ _ c.eq.ensures).1 (sym (known_at c.args.self.now c.from.result c.in-Some.at _ c.from.ensures (within h)) ∙ e))))
 

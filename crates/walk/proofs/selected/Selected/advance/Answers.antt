@@ -34,6 +34,7 @@ invariant_of-self g c =
       question = s.question;
       room = pushed_lent c.cut.new.self _ c.push.result c.push.new.self c.push.ensures.pushed ∙ wide;
       within = c.requires.within;
+      counted = s.counted;
       marked = open_more ns q c.args.node _ kept (items c.push.new.self) (omega arith) marked o after.after;
     }
 

@@ -15,6 +15,7 @@ invariant_of-result g c =
       question = c.requires.question;
       room = pushed_lent c.new-marks.result _ c.push.result c.push.new.self c.push.ensures.pushed ∙ wide;
       within = omega arith;
+      counted = c.count.ensures;
       marked = open_start (g.T.Tree.nodes c.args.tree.now) c.args.steps.now (items c.push.new.self) (one.after ∙ ap (λ (z : List Marks). record { here = 1; over = 1 } ∷ z) none);
     }
 
